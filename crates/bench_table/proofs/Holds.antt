@@ -1,0 +1,21 @@
+-- Every row of the table holds of the definitions, by computing them.
+use lib.Dec.{T}
+use Rattle.wire.specs.Checksum.{total, checksum}
+use Rattle.wire.specs.Buffers.{over}
+use Rattle.opcode.specs.Fields.{fault, wordsAt, riseFrom, rise, inGains}
+use Rattle.opcode.specs.Commands.{commandOf}
+use Rattle.opcode.specs.Judgement.{judgement, pointsSizeWrong, gainsSizeWrong, controlSizeWrong, smoothSizeWrong, sizeWrong}
+use Rattle.opcode.specs.Judgement.{gainsFault, listsFault, controlFault, smoothFault, valueFault}
+use Rattle.reply.specs.Reply.{replyBytes}
+use Rattle.settings.specs.Layout.{placeOf}
+use Rattle.settings.specs.Ranges.{pictureFields, deviceFields, right, shapeRight, settingsRight}
+use Rattle.settings.specs.Reset.{resetShape, resetBlock, resetMap, resetGains}
+use Rattle.controller.specs.State.{stopped}
+use Rattle.controller.specs.Commands.{writeGains, readGains, readPoints, shapeBytes, writeShape, readShape, applyBlock, applyLive}
+use Rattle.controller.specs.Commands.{writeSmooth, readSmooth, written, dataBack, runsPast}
+use Rattle.controller.specs.Step.{numberOf, replyTo, step}
+use Rattle.bench_table.specs.Table.{rows, allHold}
+
+pub rows-hold : T (allHold rows)
+unfolding total checksum over fault wordsAt riseFrom rise inGains commandOf judgement pointsSizeWrong gainsSizeWrong controlSizeWrong smoothSizeWrong sizeWrong gainsFault listsFault controlFault smoothFault valueFault replyBytes placeOf pictureFields deviceFields right shapeRight settingsRight resetShape resetBlock resetMap resetGains stopped writeGains readGains readPoints shapeBytes writeShape readShape applyBlock applyLive writeSmooth readSmooth written dataBack runsPast numberOf replyTo step
+rows-hold = tt

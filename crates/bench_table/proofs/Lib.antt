@@ -1,0 +1,2 @@
+-- The one statement about the table of bench packets.
+pub mod Holds

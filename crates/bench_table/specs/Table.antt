@@ -1,0 +1,122 @@
+-- Document 01, "Bench packets (hex)": "Proved together as a single table with a single statement: those marked *. Each starts from reset
+-- unless said." Each row: the packets before, the packet, the status, all bytes of the reply, and the whole state after.
+use Prim.Native.Nat.{ℕ}
+use mathlib.Core.Bool.{Bool, true, false, _&&_}
+use mathlib.Core.List.{List, [], _∷_, _++_}
+use lib.ListN.{length, drop, set, replicate}
+use lib.Dec.{eqb}
+use Rattle.controller.specs.State.{State, resetState}
+use Rattle.controller.specs.Step.{Out, step}
+
+pub record Row : Type 0 where
+  pub before : List (List ℕ)
+  pub packet : List ℕ
+  pub status : ℕ
+  pub reply : List ℕ
+  pub after : State
+
+-- A reply buffer of 512 bytes whose pattern shows what was written.
+abbrev pub buffer : List ℕ
+buffer = replicate 512 0xA5
+
+-- The state after packets taken one after another.
+abbrev pub stateOf : List (List ℕ) → State → State
+stateOf [] s = s
+stateOf (p ∷ ps) s = stateOf ps (step p s buffer .state)
+
+-- Reset, with one byte of the block, a staged point, or a gain changed.
+abbrev pub withSetting : ℕ → ℕ → State
+withSetting place v =
+    record
+      { block = set (resetState .block) place v
+      ; staged = resetState .staged
+      ; live = resetState .live
+      ; gains = resetState .gains
+      }
+
+abbrev pub withPoint : ℕ → ℕ → ℕ → State
+withPoint place x y =
+    record
+      { block = resetState .block
+      ; staged = set (set (resetState .staged) place x) (Prim.Native.Nat._+_ place 1) y
+      ; live = resetState .live
+      ; gains = resetState .gains
+      }
+
+abbrev pub withGain : ℕ → ℕ → State
+withGain place v =
+    record
+      { block = resetState .block
+      ; staged = resetState .staged
+      ; live = resetState .live
+      ; gains = set (resetState .gains) place v
+      }
+
+abbrev pub row : List ℕ → ℕ → List ℕ → State → Row
+row packet status reply after = record { before = []; packet = packet; status = status; reply = reply; after = after }
+
+-- A refused packet, with no reply asked for.
+abbrev pub refused : List ℕ → ℕ → Row
+refused packet number = row packet number [] resetState
+
+abbrev pub rows : List Row
+rows =
+    -- * empty: 2. * `24 11`: 2.
+    refused [] 2
+    ∷ refused (0x24 ∷ 0x11 ∷ []) 2
+    -- * `04 11 01`: accepted, no reply.
+    ∷ row (0x04 ∷ 0x11 ∷ 0x01 ∷ []) 0 [] (withSetting 0 1)
+    -- * `84 11` after it: reply `00 01 00 01`.
+    ∷ record
+        { before = (0x04 ∷ 0x11 ∷ 0x01 ∷ []) ∷ []
+        ; packet = 0x84 ∷ 0x11 ∷ []
+        ; status = 0
+        ; reply = 0x00 ∷ 0x01 ∷ 0x00 ∷ 0x01 ∷ []
+        ; after = withSetting 0 1
+        }
+    -- * `44 11 01`: reply `00 00 00`.
+    ∷ row (0x44 ∷ 0x11 ∷ 0x01 ∷ []) 0 (0x00 ∷ 0x00 ∷ 0x00 ∷ []) (withSetting 0 1)
+    -- * `0C 11 00 01`: accepted as `04 11 01`.
+    ∷ row (0x0C ∷ 0x11 ∷ 0x00 ∷ 0x01 ∷ []) 0 [] (withSetting 0 1)
+    -- * `24 11 01 36` accepted; `24 11 01 37`: 5.
+    ∷ row (0x24 ∷ 0x11 ∷ 0x01 ∷ 0x36 ∷ []) 0 [] (withSetting 0 1)
+    ∷ refused (0x24 ∷ 0x11 ∷ 0x01 ∷ 0x37 ∷ []) 5
+    -- * `03 11 01`: 6. * `14 11 02 00 01`: 4.
+    ∷ refused (0x03 ∷ 0x11 ∷ 0x01 ∷ []) 6
+    ∷ refused (0x14 ∷ 0x11 ∷ 0x02 ∷ 0x00 ∷ 0x01 ∷ []) 4
+    -- * `04 34 00 00 08 00 10 00`: 8.
+    ∷ refused (0x04 ∷ 0x34 ∷ 0x00 ∷ 0x00 ∷ 0x08 ∷ 0x00 ∷ 0x10 ∷ 0x00 ∷ []) 8
+    -- * `14 34 06 00 BF 07 01 00 02 00`: point 1983 becomes (1, 2). * With `C0 07`: 12.
+    ∷ row (0x14 ∷ 0x34 ∷ 0x06 ∷ 0x00 ∷ 0xBF ∷ 0x07 ∷ 0x01 ∷ 0x00 ∷ 0x02 ∷ 0x00 ∷ []) 0 [] (withPoint 3966 1 2)
+    ∷ refused (0x14 ∷ 0x34 ∷ 0x06 ∷ 0x00 ∷ 0xC0 ∷ 0x07 ∷ 0x01 ∷ 0x00 ∷ 0x02 ∷ 0x00 ∷ []) 12
+    -- * `14 2B 08 00 00 01 01 00 DF 07 00 14`: red gain 2015 becomes 5120.
+    ∷ row (0x14 ∷ 0x2B ∷ 0x08 ∷ 0x00 ∷ 0x00 ∷ 0x01 ∷ 0x01 ∷ 0x00 ∷ 0xDF ∷ 0x07 ∷ 0x00 ∷ 0x14 ∷ []) 0 [] (withGain 2015 5120)
+    ∷ []
+
+abbrev pub sameList : List ℕ → List ℕ → Bool
+sameList [] [] = true
+sameList [] (y ∷ ys) = false
+sameList (x ∷ xs) [] = false
+sameList (x ∷ xs) (y ∷ ys) = eqb x y && sameList xs ys
+
+abbrev pub sameState : State → State → Bool
+sameState s t =
+    sameList (s .block) (t .block)
+    && sameList (s .staged) (t .staged)
+    && sameList (s .live) (t .live)
+    && sameList (s .gains) (t .gains)
+
+-- What a packet gave is what the row says.
+abbrev pub agrees : Row → Out → Bool
+agrees r o =
+    eqb (o .status) (r .status)
+    && eqb (o .size) (length (r .reply))
+    && sameList (o .reply) (r .reply ++ drop (length (r .reply)) buffer)
+    && sameState (o .state) (r .after)
+
+abbrev pub holds : Row → Bool
+holds r = agrees r (step (r .packet) (stateOf (r .before) resetState) buffer)
+
+abbrev pub allHold : List Row → Bool
+allHold [] = true
+allHold (r ∷ rs) = holds r && allHold rs

@@ -1,0 +1,4 @@
+-- The front end: what one packet does to a state, what it answers, and reset.
+pub mod State
+pub mod Commands
+pub mod Step

@@ -1,0 +1,1 @@
+// The front end: one packet on a state (see specs/).

@@ -1,0 +1,101 @@
+-- Data as its bytes one by one, its 16-bit numbers as a table's, and the two tests on lists of numbers: the index of the first number at
+-- fault is the list's length exactly if none is.
+use Prim.Native.Nat.{ℕ, zero, suc, _+_, _*_, _≤_}
+use mathlib.Core.Path.{_≡_, refl, ap, _∙_}
+use mathlib.Core.List.{List, [], _∷_, _++_, append-nil}
+use native.Mathlib.Decide.{decLe, decLt}
+use native.Mathlib.Numerals.{add-one, add-two}
+use native.Mathlib.Omega.{arith}
+use lib.ListN.{length, take, drop, getD, length-drop, drop-of-length-le}
+use lib.Seq.{drop-cons, take-all}
+use borrow.Author.Tests.{lt-ltb, le-ltb, le-leb, lt-leb}
+use Rattle.wire.specs.Tables.{words}
+use Rattle.opcode.specs.Fields.{wordsAt, riseFrom, rise, inGains}
+use Rattle.opcode.specs.Allowed.{Rising, empty, single, next}
+
+-- The n elements from a place on.
+abbrev pub bytesAt : List ℕ → ℕ → ℕ → List ℕ
+bytesAt d at zero = []
+bytesAt d at (suc n) = getD d at 0 ∷ bytesAt d (at + 1) n
+
+bytes-from : (n : ℕ) (d : List ℕ) (at : ℕ) → at + n ≤ length d → drop at d ≡ bytesAt d at n ++ drop (at + n) d
+bytes-from zero d at h = let e : at + 0 ≡ at = omega arith in rw e
+bytes-from (suc n) d at h =
+    let e : at + suc n ≡ at + 1 + n = omega arith in
+    rw (drop-cons d at 0 (omega arith), e, ← add-one at, bytes-from n d (at + 1) (omega arith))
+
+-- Data with n bytes at least, its first n shown.
+pub headed : (d : List ℕ) (n : ℕ) → n ≤ length d → d ≡ bytesAt d 0 n ++ drop n d
+headed d n h = let e : 0 + n ≡ n = omega arith in rw e at (bytes-from n d 0 (omega arith))
+
+-- Data of n bytes, each shown.
+pub exactly : (d : List ℕ) (n : ℕ) → length d ≡ n → d ≡ bytesAt d 0 n
+exactly d n e = headed d n (omega arith) ∙ rw (drop-of-length-le d {i = n} (omega arith), append-nil)
+
+-- The numbers from a place on are the words of that part.
+pub words-part : (n : ℕ) (d : List ℕ) (at : ℕ) → at + 2 * n ≤ length d → wordsAt d at n ≡ words (take (2 * n) (drop at d))
+unfolding wordsAt
+words-part zero d at h = refl
+words-part (suc n) d at h =
+    let e : 2 * suc n ≡ suc (suc (2 * n)) = omega arith in
+    rw (
+      e,
+      drop-cons d at 0 (omega arith),
+      drop-cons d (suc at) 0 (omega arith),
+      add-one at,
+      add-two at,
+      words-part n d (suc (suc at)) (omega arith),
+    )
+
+pub words-rest : (n : ℕ) (d : List ℕ) (at : ℕ) → length d ≡ at + 2 * n → wordsAt d at n ≡ words (drop at d)
+words-rest n d at e =
+    let short : length (drop at d) ≤ 2 * n = rw length-drop (omega arith) in
+    words-part n d at (omega arith) ∙ rw take-all
+
+pub length-wordsAt : (n : ℕ) (d : List ℕ) (at : ℕ) → length (wordsAt d at n) ≡ n
+unfolding wordsAt
+length-wordsAt zero d at = refl
+length-wordsAt (suc n) d at = ap suc (length-wordsAt n d (at + 2))
+
+-- Strictly rising.
+from-rising : {last : ℕ} {ws : List ℕ} → Rising (last ∷ ws) → riseFrom last ws ≡ length ws
+unfolding riseFrom
+from-rising single = refl
+from-rising {last} (next {w = w} h r) = rw (lt-ltb last w h) (ap suc (from-rising r))
+
+rising-from : (last : ℕ) (ws : List ℕ) → length ws ≤ riseFrom last ws → Rising (last ∷ ws)
+unfolding riseFrom
+rising-from last [] h = single
+rising-from last (w ∷ ws) h =
+    elim (decLt last w) [
+      | yes l ↦ next l (rising-from w ws (omega (arith, rw (lt-ltb last w l) at h)))
+      | no l ↦ absurd (omega (arith, rw (le-ltb last w (omega arith)) at h))
+    ]
+
+pub rising-rise : {ws : List ℕ} → Rising ws → rise ws ≡ length ws
+unfolding rise
+rising-rise empty = refl
+rising-rise single = refl
+rising-rise (next {v = v} h r) = ap suc (from-rising {last = v} (next h r))
+
+pub rise-rising : (ws : List ℕ) → length ws ≤ rise ws → Rising ws
+unfolding rise
+rise-rising [] h = empty
+rise-rising (w ∷ ws) h = rising-from w ws (omega arith)
+
+-- Not above 8191.
+pub small-gains : (ws : List ℕ) → ((k : ℕ) → getD ws k 0 ≤ 8191) → inGains ws ≡ length ws
+unfolding inGains
+small-gains [] h = refl
+small-gains (w ∷ ws) h = rw (le-leb w 8191 (h 0)) (ap suc (small-gains ws (λ k. h (suc k))))
+
+first-small : (w : ℕ) (ws : List ℕ) → length (w ∷ ws) ≤ inGains (w ∷ ws) → (w ≤ 8191) × (length ws ≤ inGains ws)
+unfolding inGains
+first-small w ws h =
+    elim (decLe w 8191)
+    [ yes l ↦ (l, omega (arith, rw (le-leb w 8191 l) at h)) | no l ↦ absurd (omega (arith, rw (lt-leb w 8191 (omega arith)) at h)) ]
+
+pub gains-small : (ws : List ℕ) → length ws ≤ inGains ws → (k : ℕ) → getD ws k 0 ≤ 8191
+gains-small [] h k = omega arith
+gains-small (w ∷ ws) h zero = first-small w ws h .0
+gains-small (w ∷ ws) h (suc k) = gains-small ws (first-small w ws h .1) k

@@ -1,0 +1,46 @@
+-- A write's tests 9 to 11 apart from its options, and what they come to where the command's size is fixed.
+use Prim.Native.Nat.{ℕ}
+use mathlib.Core.Path.{_≡_}
+use mathlib.Core.Bool.{Bool, false, cond, not, _&&_, _||_}
+use mathlib.Core.List.{List}
+use lib.ListN.{length}
+use lib.Dec.{eqb, ltb}
+use Rattle.wire.specs.Numbers.{byteAt}
+use Rattle.opcode.specs.Fields.{fault}
+use Rattle.opcode.specs.Options.{isRead}
+use Rattle.opcode.specs.Commands.{commandOf, fixed, variable}
+use Rattle.opcode.specs.Judgement.{judgement, unknown, lacksLength, sizeWrong, variableSizeWrong, valueFault, variableFault}
+use Rattle.opcode.proofs.Accepts.Tests.{Silent}
+use Rattle.opcode.proofs.Accepts.Fields.{Right, right-size, right-value, tests-right}
+use Rattle.opcode.proofs.Accepts.Commands.{sets-span, sets-sized}
+
+-- 11 of a write: merge mode, compressed gains.
+abbrev pub namedWrite : ℕ → List ℕ → Bool
+namedWrite op d = (eqb op 0x39 || eqb op 0x2B) && eqb (byteAt d 0) 1
+
+-- None of the three holds.
+pub record Passes (op : ℕ) (d : List ℕ) : Type 0 where
+  pub size : cond (eqb (commandOf op .mark) variable) (variableSizeWrong op d) (not (eqb (length d) (commandOf op .write))) ≡ false
+  pub value : ltb (cond (eqb (commandOf op .mark) variable) (variableFault op d) (fault (commandOf op .sets) d 0)) (length d) ≡ false
+  pub named : namedWrite op d ≡ false
+
+pub passes-silent : (op o : ℕ) (d : List ℕ) → isRead o ≡ 0 → unknown op ≡ false → lacksLength op o ≡ false → Passes op d
+    → Silent (judgement op o d)
+unfolding sizeWrong valueFault judgement
+passes-silent op o d h m l p = (m, (l, (rw h (p .size), (rw h (p .value), (rw h (p .named), tt)))))
+
+pub silent-passes : (op o : ℕ) (d : List ℕ) → isRead o ≡ 0 → Silent (judgement op o d) → Passes op d
+unfolding sizeWrong valueFault judgement
+silent-passes op o d h s =
+    record { size = rw h at (s .1 .1 .0); value = rw h at (s .1 .1 .1 .0); named = rw h at (s .1 .1 .1 .1 .0) }
+
+-- Data of a fixed size is all fields.
+abbrev pub RightWrite : ℕ → List ℕ → Type 0
+RightWrite op d = Right (commandOf op .write) (commandOf op .sets) d
+
+pub right-passes : {op : ℕ} {d : List ℕ} → commandOf op .mark ≡ fixed → RightWrite op d → namedWrite op d ≡ false → Passes op d
+right-passes {op} {d} m r n = record { size = rw m (right-size r); value = rw m (right-value (sets-span op m) r); named = n }
+
+pub passes-right : (op : ℕ) (d : List ℕ) → commandOf op .mark ≡ fixed → Passes op d → RightWrite op d
+passes-right op d m p =
+    tests-right (commandOf op .write) (commandOf op .sets) d (sets-sized op) (sets-span op m) (rw m at (p .size)) (rw m at (p .value))

@@ -1,0 +1,46 @@
+-- Tests joined by `&&` and `||`, and lists of (number, test): no test of a list holds exactly if the number given is 0.
+use Prim.Native.Nat.{ℕ, _<_}
+use mathlib.Core.Path.{_≡_, refl}
+use mathlib.Core.Bool.{Bool, true, false, _&&_, _||_}
+use mathlib.Core.List.{List, [], _∷_}
+use native.Mathlib.Omega.{arith}
+use borrow.Author.Tests.{not-true, not-false, ltb-true, ltb-false, leb-true, leb-false, eqb-true}
+use Rattle.wire.specs.First.{first}
+
+pub and-left : (a b : Bool) → a && b ≡ true → a ≡ true
+and-left true b e = refl
+and-left false b e = e
+
+pub and-right : (a b : Bool) → a && b ≡ true → b ≡ true
+and-right true b e = e
+and-right false b e = cc
+
+pub or-left : (a b : Bool) → a || b ≡ false → a ≡ false
+or-left true b e = e
+or-left false b e = refl
+
+pub or-right : (a b : Bool) → a || b ≡ false → b ≡ false
+or-right true b e = cc
+or-right false b e = e
+
+-- What a joined test tells of its parts, and a part of its numbers: `search told` finds it.
+pub ruleset told = (not-true, not-false, and-left, and-right, or-left, or-right, ltb-true, ltb-false, leb-true, leb-false, eqb-true)
+
+-- No test holds.
+abbrev pub Silent : List (ℕ × Bool) → Type 0
+Silent [] = Unit
+Silent (t ∷ ts) = (t .1 ≡ false) × Silent ts
+
+-- No number is 0.
+abbrev pub Numbered : List (ℕ × Bool) → Type 0
+Numbered [] = Unit
+Numbered (t ∷ ts) = (0 < t .0) × Numbered ts
+
+pub silent-first : (ts : List (ℕ × Bool)) → Silent ts → first ts ≡ 0
+silent-first [] s = refl
+silent-first (t ∷ ts) s = rw (s .0) (silent-first ts (s .1))
+
+pub first-silent : (ts : List (ℕ × Bool)) → Numbered ts → first ts ≡ 0 → Silent ts
+first-silent [] n e = tt
+first-silent ((k, true) ∷ ts) n e = absurd (omega arith)
+first-silent ((k, false) ∷ ts) n e = (refl, first-silent ts (n .1) e)

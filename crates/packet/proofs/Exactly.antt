@@ -1,0 +1,85 @@
+-- Demand 2 for reading: it takes exactly the packets with a sound frame, destination 4 and allowed data. Each test of the list of refusals is
+-- false, and that of the judgement is what `Allowed` says.
+use Prim.Native.Nat.{ℕ, zero, suc, _<_}
+use mathlib.Core.Path.{_≡_, refl, _∙_, sym}
+use mathlib.Core.Logic.{_↔_}
+use mathlib.Core.Bool.{Bool, true, false, not, _&&_}
+use mathlib.Core.List.{List, [], _∷_}
+use native.Mathlib.Omega.{arith}
+use borrow.Author.Tests.{ltb-false, eqb-true, not-false, le-ltb, eq-eqb}
+use lib.ListN.{take, drop, getD}
+use lib.Seq.{getD-drop}
+use lib.Dec.{eqb, lit<}
+use Rattle.wire.specs.First.{first}
+use Rattle.opcode.specs.Options.{optionsIn}
+use Rattle.opcode.specs.Judgement.{judgement}
+use Rattle.opcode.specs.Allowed.{Allowed}
+use Rattle.opcode.proofs.Accepts.{accepts}
+use Rattle.opcode.proofs.Accepts.Tests.{silent-first, first-silent}
+use Rattle.packet.specs.Frame.{headerOf, opcodeOf, dataOf, dataSize, place}
+use Rattle.packet.specs.Reading.{refusals, answered, reading}
+use Rattle.packet.specs.Sound.{Taken}
+
+-- The number that reading gives is the first of the refusals.
+pub number-is : (p : List ℕ) → reading p .number ≡ first (refusals p)
+unfolding reading
+number-is p = go (first (refusals p)) (eqb (first (refusals p)) 0) refl
+  where
+    go : (n : ℕ) (b : Bool) → eqb n 0 ≡ b → answered n p .number ≡ n
+    go n true e = rw e (sym (eqb-true n 0 e))
+    go n false e = rw e
+
+-- A test that holds only where an option is set and two numbers differ.
+option-true : (a b : Bool) → (a && not b) ≡ false → a ≡ true → b ≡ true
+option-true true b h e = not-false b h
+option-true false b h e = cc
+
+option-false : (a b : Bool) → (a ≡ true → b ≡ true) → (a && not b) ≡ false
+option-false true b h = rw h refl
+option-false false b h = refl
+
+-- Bytes of a part are bytes.
+below-take : (n : ℕ) (l : List ℕ) → ((k : ℕ) → getD l k 0 < 256) → (k : ℕ) → getD (take n l) k 0 < 256
+below-take zero l h k = lit< tt
+below-take (suc n) [] h k = lit< tt
+below-take (suc n) (x ∷ l) h zero = h 0
+below-take (suc n) (x ∷ l) h (suc k) = below-take n l (λ i. h (suc i)) k
+
+pub bytes-of-data : (p : List ℕ) → ((k : ℕ) → getD p k 0 < 256) → (k : ℕ) → getD (dataOf p) k 0 < 256
+bytes-of-data p h k = below-take (dataSize p) (drop (place (headerOf p)) p) (λ i. rw getD-drop (h _)) k
+
+pub exactly : (p : List ℕ) → ((k : ℕ) → getD p k 0 < 256) → (reading p .number ≡ 0) ↔ Taken p
+unfolding judgement
+exactly p h = (λ n. to (sym (number-is p) ∙ n), λ t. number-is p ∙ from t)
+  where
+    rest : List (ℕ × Bool)
+    rest = judgement (opcodeOf p) (optionsIn (headerOf p)) (dataOf p)
+
+    allows : (first rest ≡ 0)
+        ↔ Allowed (opcodeOf p) (optionsIn (headerOf p)) (dataOf p)
+    allows = accepts (opcodeOf p) (optionsIn (headerOf p)) (dataOf p) (bytes-of-data p h)
+
+    to : first (refusals p) ≡ 0 → Taken p
+    to n =
+        let s = first-silent (refusals p) (omega arith) n in
+        record
+          { frame =
+              record
+                { whole = ltb-false _ _ (s .0)
+                ; short = ltb-false _ _ (s .1 .0)
+                ; counted = λ e. eqb-true _ _ (option-true _ _ (s .1 .1 .0) (eq-eqb _ _ e))
+                ; summed = λ e. eqb-true _ _ (option-true _ _ (s .1 .1 .1 .0) (eq-eqb _ _ e))
+                }
+          ; here = eqb-true _ _ (not-false _ (s .1 .1 .1 .1 .0))
+          ; allowed = allows .0 (silent-first rest (s .1 .1 .1 .1 .1))
+          }
+
+    from : Taken p → first (refusals p) ≡ 0
+    from t =
+        silent-first (refusals p)
+        (le-ltb _ _ (t .frame .whole),
+        (le-ltb _ _ (t .frame .short),
+        (option-false _ _ (λ e. eq-eqb _ _ (t .frame .counted (eqb-true _ _ e))),
+        (option-false _ _ (λ e. eq-eqb _ _ (t .frame .summed (eqb-true _ _ e))),
+        (rw (eq-eqb _ _ (t .here)) refl,
+        first-silent rest (omega arith) (allows .1 (t .allowed)))))))

@@ -1,0 +1,133 @@
+-- Frames and what stands in them. The refusals of a command, which follow those of its frame, may be any list.
+use Prim.Native.Nat.{ℕ, zero, suc, _+_, _-_, _≤_, _<_}
+use mathlib.Core.Path.{_≡_, refl, sym, ap, _∙_}
+use mathlib.Core.Bool.{Bool, true, false, cond, not, _&&_}
+use mathlib.Core.List.{List, [], _∷_, _++_}
+use native.Mathlib.Omega.{arith}
+use borrow.Author.Tests.{ltb-false, eqb-true, eq-eqb}
+use lib.ListN.{length, take, drop}
+use lib.Dec.{eqb}
+use Rattle.wire.specs.First.{first}
+use Rattle.opcode.specs.Options.{optionsIn}
+use Rattle.opcode.specs.Judgement.{judgement}
+use Rattle.packet.specs.Frame.{headerOf, opcodeOf, place, fields, dataSize, dataOf}
+use Rattle.packet.specs.Reading.{Answer, tooShort, tooLong, lengthDiffers, checksumDiffers, elsewhere, frameRefusals, refusals, refusedBy, answered, reading, framed, frameAnswer}
+use Rattle.packet.specs.declared.Frame.the-variants.{Sound, Broken}
+
+-- What stands in a packet.
+abbrev pub standing : List ℕ → Answer
+standing p = record { number = 0; opcode = opcodeOf p; options = optionsIn (headerOf p); place = place (headerOf p); size = dataSize p }
+
+-- The five tests of a frame.
+abbrev pub rows : Bool → Bool → Bool → Bool → Bool → List (ℕ × Bool)
+rows a b c d e = (2, a) ∷ (3, b) ∷ (4, c) ∷ (5, d) ∷ (6, e) ∷ []
+
+-- The frame's number, or if it has none the first of what follows.
+pub framed-first : (a b c d e : Bool) (ts : List (ℕ × Bool))
+    → first (rows a b c d e ++ ts) ≡ cond (eqb (first (rows a b c d e)) 0) (first ts) (first (rows a b c d e))
+framed-first true b c d e ts = refl
+framed-first false true c d e ts = refl
+framed-first false false true d e ts = refl
+framed-first false false false true e ts = refl
+framed-first false false false false true ts = refl
+framed-first false false false false false ts = refl
+
+module _ (a b c d e : Bool) (ts : List (ℕ × Bool)) where
+  pub framed-broken : eqb (first (rows a b c d e)) 0 ≡ false → first (rows a b c d e ++ ts) ≡ first (rows a b c d e)
+  framed-broken h = framed-first a b c d e ts ∙ rw h
+
+  pub framed-sound : first (rows a b c d e) ≡ 0 → first (rows a b c d e ++ ts) ≡ first ts
+  framed-sound h = framed-first a b c d e ts ∙ rw h
+
+-- No number means that no test held.
+pub record Passed (a b c d e : Bool) : Type 0 where
+  pub no-2 : a ≡ false
+  pub no-3 : b ≡ false
+  pub no-4 : c ≡ false
+  pub no-5 : d ≡ false
+  pub no-6 : e ≡ false
+
+pub passed : (a b c d e : Bool) → first (rows a b c d e) ≡ 0 → Passed a b c d e
+passed true b c d e h = absurd (omega arith)
+passed false true c d e h = absurd (omega arith)
+passed false false true d e h = absurd (omega arith)
+passed false false false true e h = absurd (omega arith)
+passed false false false false true h = absurd (omega arith)
+passed false false false false false h = record { no-2 = refl; no-3 = refl; no-4 = refl; no-5 = refl; no-6 = refl }
+
+-- The tests of a frame, one by one.
+pub framed-by : (p : List ℕ) {a b c d e : Bool} → tooShort p ≡ a → tooLong p ≡ b → lengthDiffers p ≡ c → checksumDiffers p ≡ d
+    → elsewhere p ≡ e → framed p ≡ answered (first (rows a b c d e)) p
+unfolding framed
+framed-by p h i j k l = rw (h, i, j, k, l)
+
+-- The length field's test, where a stand-in takes the place of a field that is not there.
+pub stand-in : (b : Bool) (w n v : ℕ) → v ≡ cond b w n → (b && not (eqb w n)) ≡ not (eqb v n)
+stand-in true w n v e = rw e
+stand-in false w n v e = rw (eq-eqb v n e)
+
+pub standing-as : (p : List ℕ) {op o at size : ℕ} → op ≡ opcodeOf p → o ≡ optionsIn (headerOf p) → at ≡ place (headerOf p) → size ≡ dataSize p
+    → record { number = 0; opcode = op; options = o; place = at; size = size } ≡ standing p
+standing-as p h i j k = rw (h, i, j, k)
+
+-- An answer is sound exactly if its number is 0: a refusal has no place, and data is never at place 0.
+sound-zero : (b : Bool) (n : ℕ) (p : List ℕ) {op o at size : ℕ} → eqb n 0 ≡ b
+    → record { number = 0; opcode = op; options = o; place = at; size = size } ≡ cond b (standing p) (refusedBy n) → n ≡ 0
+sound-zero true n p e h = eqb-true n 0 e
+sound-zero false n p e h = sym (ap (λ (a : Answer). a .number) h)
+
+broken-some : (b : Bool) (n m : ℕ) (p : List ℕ) → refusedBy m ≡ cond b (standing p) (refusedBy n) → b ≡ false
+broken-some true n m p h = let z = ap (λ (a : Answer). a .place) h in absurd (omega arith)
+broken-some false n m p h = refl
+
+-- A broken frame's refusal is that of the packet.
+pub broken-read : (p : List ℕ) (n : ℕ) → refusedBy n ≡ framed p → refusedBy n ≡ reading p
+unfolding framed reading
+broken-read p n h =
+    let some = broken-some (eqb (first (frameRefusals p)) 0) (first (frameRefusals p)) n p h in
+    h ∙ ap (λ (n : ℕ). answered n p) (sym (framed-broken (tooShort p) (tooLong p) (lengthDiffers p) (checksumDiffers p) (elsewhere p) (judgement (opcodeOf p) (optionsIn (headerOf p)) (dataOf p)) some))
+
+-- What a sound frame holds.
+pub record Stands (p : List ℕ) (op o at size : ℕ) : Type 0 where
+  pub none : first (frameRefusals p) ≡ 0
+  pub same-opcode : op ≡ opcodeOf p
+  pub same-options : o ≡ optionsIn (headerOf p)
+  pub same-place : at ≡ place (headerOf p)
+  pub same-size : size ≡ dataSize p
+  pub whole : fields (headerOf p) ≤ length p
+  pub short : length p ≤ 512
+
+pub stands : (p : List ℕ) (op o at size : ℕ) → record { number = 0; opcode = op; options = o; place = at; size = size } ≡ framed p
+    → Stands p op o at size
+unfolding framed
+stands p op o at size h =
+    let zero-number = sound-zero (eqb (first (frameRefusals p)) 0) (first (frameRefusals p)) p refl h in
+    let same : record { number = 0; opcode = op; options = o; place = at; size = size } ≡ standing p =
+        h ∙ ap (λ (n : ℕ). answered n p) zero-number in
+    let tests = passed (tooShort p) (tooLong p) (lengthDiffers p) (checksumDiffers p) (elsewhere p) zero-number in
+    record {
+      none = zero-number;
+      same-opcode = ap (λ (a : Answer). a .opcode) same;
+      same-options = ap (λ (a : Answer). a .options) same;
+      same-place = ap (λ (a : Answer). a .place) same;
+      same-size = ap (λ (a : Answer). a .size) same;
+      whole = ltb-false (length p) (fields (headerOf p)) (tests .no-2);
+      short = ltb-false 512 (length p) (tests .no-3);
+    }
+
+-- A sound frame's command is judged, and answered with what stands in the frame.
+alike : (J : ℕ → ℕ → List ℕ → ℕ) {op op′ o o′ : ℕ} {d d′ : List ℕ} → op ≡ op′ → o ≡ o′ → d ≡ d′ → J op o d ≡ J op′ o′ d′
+alike J e f g = rw (e, f, g)
+
+pub judged-read : (p : List ℕ) (op o at size n : ℕ) → record { number = 0; opcode = op; options = o; place = at; size = size } ≡ framed p
+    → n ≡ first (judgement op o (take (at + size - at) (drop at p)))
+    → cond (eqb n 0) (record { number = 0; opcode = op; options = o; place = at; size = size }) (refusedBy n) ≡ reading p
+unfolding framed reading
+judged-read p op o at size n h e =
+    let s = stands p op o at size h in
+    let long : at + size - at ≡ dataSize p = omega (arith, s .same-size) in
+    let there : take (at + size - at) (drop at p) ≡ dataOf p = rw (long, s .same-place) in
+    let number : n ≡ first (refusals p) =
+        e ∙ alike (λ (op o : ℕ) (d : List ℕ). first (judgement op o d)) (s .same-opcode) (s .same-options) there
+        ∙ sym (framed-sound (tooShort p) (tooLong p) (lengthDiffers p) (checksumDiffers p) (elsewhere p) (judgement (opcodeOf p) (optionsIn (headerOf p)) (dataOf p)) (s .none)) in
+    ap (λ (a : Answer). cond (eqb n 0) a (refusedBy n)) (h ∙ ap (λ (n : ℕ). answered n p) (s .none)) ∙ ap (λ (n : ℕ). answered n p) number

@@ -1,0 +1,7 @@
+-- Laws of packets: the stores that make one, what making answers, and the frame that is read; and the theorems: reading takes exactly
+-- what document 01 allows, what is made reads back, and what is read is made again.
+pub mod Stores
+pub mod Makes
+pub mod Frames
+pub mod Within
+pub mod Exactly

@@ -1,0 +1,49 @@
+-- What making answers, by its first test that holds. The refusals of the command may be any list.
+use Prim.Native.Nat.{ℕ, _+_, _≤_, _<_}
+use mathlib.Core.Path.{_≡_, refl, sym, ap, _∙_}
+use mathlib.Core.Bool.{Bool, true, false}
+use mathlib.Core.List.{List, _∷_}
+use borrow.Author.Tests.{lt-ltb, le-ltb, ne-eqb}
+use lib.ListN.{length}
+use lib.Dec.{ltb}
+use Rattle.wire.specs.First.{first}
+use Rattle.opcode.specs.Options.{optionsIn}
+use Rattle.opcode.specs.Judgement.{judgement}
+use Rattle.packet.specs.Frame.{fields}
+use Rattle.packet.specs.Making.{makeRefusals, madeBy, made}
+
+-- The first number of making's list.
+small : {a : Bool} (b : Bool) (ts : List (ℕ × Bool)) → a ≡ true → first ((1, a) ∷ (3, b) ∷ ts) ≡ 1
+small b ts e = rw e
+
+large : {a b : Bool} (ts : List (ℕ × Bool)) → a ≡ false → b ≡ true → first ((1, a) ∷ (3, b) ∷ ts) ≡ 3
+large ts e f = rw (e, f)
+
+fits : {a b : Bool} (ts : List (ℕ × Bool)) → a ≡ false → b ≡ false → first ((1, a) ∷ (3, b) ∷ ts) ≡ first ts
+fits ts e f = rw (e, f)
+
+module _ (op options : ℕ) (d buffer : List ℕ) where
+  pub made-by : (n : ℕ) → first (makeRefusals op (optionsIn options) d (length buffer)) ≡ n
+      → made op options d buffer ≡ madeBy n op (optionsIn options) d buffer
+  unfolding made
+  made-by n e = ap (λ (n : ℕ). madeBy n op (optionsIn options) d buffer) e
+
+  pub made-small : length buffer < 512 → made op options d buffer ≡ madeBy 1 op (optionsIn options) d buffer
+  made-small h = made-by 1 (small (ltb 512 (fields (optionsIn options) + length d)) (judgement op (optionsIn options) d) (lt-ltb (length buffer) 512 h))
+
+  module _ (room : 512 ≤ length buffer) where
+    pub made-large : 512 < fields (optionsIn options) + length d → made op options d buffer ≡ madeBy 3 op (optionsIn options) d buffer
+    made-large h =
+        made-by 3
+        (large (judgement op (optionsIn options) d) (le-ltb (length buffer) 512 room) (lt-ltb 512 (fields (optionsIn options) + length d) h))
+
+    module _ (fit : fields (optionsIn options) + length d ≤ 512) where
+      pub made-judged : (n : ℕ) → first (judgement op (optionsIn options) d) ≡ n
+          → made op options d buffer ≡ madeBy n op (optionsIn options) d buffer
+      made-judged n e =
+          made-by n
+          (fits (judgement op (optionsIn options) d) (le-ltb (length buffer) 512 room) (le-ltb 512 (fields (optionsIn options) + length d) fit) ∙ e)
+
+      pub made-refused : (n : ℕ) → first (judgement op (optionsIn options) d) ≡ n → (n ≡ 0 → ⊥)
+          → made op options d buffer ≡ record { status = n; size = 0; buffer = buffer }
+      made-refused n e h = made-judged n e ∙ rw (ne-eqb n 0 h)

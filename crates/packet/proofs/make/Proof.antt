@@ -1,0 +1,73 @@
+-- Each return answers by the first test that held; the packet is written where none did.
+use mathlib.Core.Path.{sym, _∙_}
+use native.Mathlib.Omega.{arith}
+use Rattle.opcode.proofs.Below.{carried-below}
+use Rattle.packet.proofs.Makes.{made-small, made-large, made-refused, made-judged}
+use borrow.Author.Needs.{needs}
+use Rattle.packet.proofs.make.Statement.{statement}
+use Rattle.packet.proofs.make.Tie as tie
+
+returns : tie.Need-returns
+returns c = sym (made-small _ _ _ _ (c .if1 .taken))
+
+mul-o : tie.Need-mul-o
+mul-o c = search needs
+
+add-fields : tie.Need-add-fields
+add-fields c = search needs
+
+mul-fields : tie.Need-mul-fields
+mul-fields c = search needs
+
+add-fields-2 : tie.Need-add-fields-2
+add-fields-2 c = search needs
+
+add-fields-3 : tie.Need-add-fields-3
+add-fields-3 c = search needs
+
+sub-if2 : tie.Need-sub-if2
+sub-if2 c = search needs
+
+returns-2 : tie.Need-returns-2
+returns-2 c = sym (made-large _ _ _ _ (c .before .if1 .left) (omega arith))
+
+judge-requires : tie.Need-judge-requires
+judge-requires c κs = search needs
+
+returns-3 : tie.Need-returns-3
+returns-3 c =
+    let judged = c .before .before in
+    sym (made-refused _ _ _ _ (judged .before .before .if1 .left) (omega arith) _ (sym (judged .judge .ensures)) (c .if3 .taken))
+
+write-packet-requires : tie.Need-write-packet-requires
+write-packet-requires c κs =
+    let judged = c .before .before .before in
+    (carried-below _ _ _ (sym (judged .judge .ensures) ∙ c .before .if3 .left), omega arith, omega arith, omega arith)
+
+same-length : tie.Need-same-length
+same-length c = search needs
+
+returns-4 : tie.Need-returns-4
+returns-4 c =
+    let written = c .before .before in
+    let judged = written .before .before .before .before in
+    rw (written .write-packet .ensures .0, written .write-packet .ensures .1)
+    (sym (made-judged _ _ _ _ (judged .before .before .if1 .left) (omega arith) 0 (sym (judged .judge .ensures) ∙ written .before .before .if3 .left)))
+
+pub make-spec : {M : Type 1} → statement M
+make-spec =
+    tie.close
+    (tie.spec
+    returns
+    mul-o
+    add-fields
+    mul-fields
+    add-fields-2
+    add-fields-3
+    sub-if2
+    returns-2
+    judge-requires
+    returns-3
+    write-packet-requires
+    same-length
+    returns-4)

@@ -1,0 +1,3 @@
+-- Replies: what is written, and how one is read.
+pub mod Reply
+pub mod Reading

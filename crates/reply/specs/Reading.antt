@@ -1,0 +1,50 @@
+-- Document 01, "Reply": "Reply reading takes a reply's bytes and whether a checksum is expected. It gives the status and the place of
+-- the data, or, in this order: 2 under three bytes (four with a checksum), 3 over 512, 4 if the length differs from the data there, 5,
+-- and 10 for a status over 12." The place is always 3, "behind its three-byte head".
+use Prim.Native.Nat.{ℕ, _+_, _-_}
+use mathlib.Core.Bool.{Bool, cond, not, _&&_}
+use mathlib.Core.List.{List, [], _∷_}
+use lib.ListN.{length, take}
+use lib.Dec.{eqb, ltb}
+use Rattle.wire.specs.Numbers.{byteAt, wordAt}
+use Rattle.wire.specs.Checksum.{checksum}
+use Rattle.wire.specs.First.{first}
+use Rattle.reply.specs.declared.ReplyReading.{ReplyReading}
+use Rattle.reply.specs.declared.ReplyReading.the-variants.{Reply, Refused}
+
+-- What reply reading gives: the refusal, 0 for none; then the status and the data's size, the data at place 3. Both 0 if refused.
+pub record ReplyAnswer : Type 0 where
+  pub number : ℕ
+  pub status : ℕ
+  pub size : ℕ
+
+-- The bytes of a checksum that is expected.
+abbrev pub sumSize : Bool → ℕ
+sumSize sum = cond sum 1 0
+
+-- Refusal 5: a checksum is expected, and the last byte is not that of the bytes before it.
+abbrev pub sumWrong : List ℕ → Bool → Bool
+sumWrong r sum = sum && not (eqb (byteAt r (length r - 1)) (checksum (take (length r - 1) r)))
+
+abbrev pub replyRefusals : List ℕ → Bool → List (ℕ × Bool)
+replyRefusals r sum =
+    (2, ltb (length r) (3 + sumSize sum))
+    ∷ (3, ltb 512 (length r))
+    ∷ (4, not (eqb (wordAt r 1) (length r - 3 - sumSize sum)))
+    ∷ (5, sumWrong r sum)
+    ∷ (10, ltb 12 (byteAt r 0))
+    ∷ []
+
+abbrev pub replyAnswered : ℕ → List ℕ → Bool → ReplyAnswer
+replyAnswered n r sum =
+    cond (eqb n 0)
+    (record { number = 0; status = byteAt r 0; size = length r - 3 - sumSize sum })
+    (record { number = n; status = 0; size = 0 })
+
+unfoldable pub replyReading : List ℕ → Bool → ReplyAnswer
+replyReading r sum = replyAnswered (first (replyRefusals r sum)) r sum
+
+-- Number and values of each case of the code's answer.
+abbrev pub answer : ReplyReading → ReplyAnswer
+answer (Reply status size) = record { number = 0; status = status; size = size }
+answer (Refused why) = record { number = why .number; status = 0; size = 0 }

@@ -1,0 +1,99 @@
+// Replies: writing one behind its three-byte head, and reading one on the host's side.
+use wire::Refusal;
+ghost use mathlib.Core.Path.{_≡_};
+ghost use Prim.Native.Nat.{_+_, _<_, _≤_};
+ghost use lib.ListN.{length, take, drop};
+ghost use Rattle.wire.specs.Buffers.{over};
+ghost use Rattle.reply.specs.Reply.{replyBytes};
+ghost use Rattle.reply.specs.Reading.{answer, replyReading, sumSize, sumWrong};
+
+// What a reply says: its status and the size of its data, which starts at place 3; or why it is none.
+pub enum ReplyReading {
+    Reply { status: u8, size: usize },
+    Refused(Refusal),
+}
+
+// Reads a reply; sum says whether a checksum is expected.
+pub fn read_reply(reply: &[u8], sum: bool) -> ReplyReading
+    ensures { λ r. ⌜ answer r ≡ replyReading (now (reply .entry)) sum ⌝ }
+{
+    let n = reply.len();
+    let extra = sum_size(sum);
+    if n < 3 + extra {
+        return refused(2);
+    }
+    if 512 < n {
+        return refused(3);
+    }
+    let size = n - 3 - extra;
+    if wire::word(reply, 1) != size {
+        return refused(4);
+    }
+    if sum_wrong(reply, sum) {
+        return refused(5);
+    }
+    let status = reply[0];
+    if 12 < status {
+        return refused(10);
+    }
+    ReplyReading::Reply { status, size }
+}
+
+// The bytes that a checksum takes.
+fn sum_size(sum: bool) -> usize
+    ensures { λ r. ⌜ (r ≡ sumSize sum) × (r ≤ 1) ⌝ }
+{
+    if sum { 1 } else { 0 }
+}
+
+// Whether a checksum is expected and the last byte is not that of the bytes before it.
+fn sum_wrong(reply: &[u8], sum: bool) -> bool
+    requires { ⌜ 0 < length (now reply) ⌝ }
+    ensures { λ r. ⌜ r ≡ sumWrong (now (reply .entry)) sum ⌝ }
+{
+    if sum {
+        let n = reply.len() - 1;
+        wire::byte(reply, n) != wire::checksum(reply, n)
+    } else {
+        false
+    }
+}
+
+fn refused(number: u8) -> ReplyReading
+    ensures { λ r. ⌜ answer r ≡ record { number = number; status = 0; size = 0 } ⌝ }
+{
+    ReplyReading::Refused(Refusal { number })
+}
+
+// Puts the head before n bytes of data that stand at place 3, and the checksum behind them if sum is set. Answers the reply's length.
+pub fn seal(reply: &mut [u8], status: usize, n: usize, sum: bool) -> usize
+    requires { ⌜ (status < 256) × (n < 65536) × (n + 4 ≤ length (now reply)) ⌝ }
+    ensures { λ r. ⌜ (r ≡ length (replyBytes sum status (take n (drop 3 (now (reply .entry))))))
+        × (now (reply .exit) ≡ over (replyBytes sum status (take n (drop 3 (now (reply .entry))))) (now (reply .entry))) ⌝ }
+{
+    wire::put_byte(reply, 0, status);
+    wire::put_word(reply, 1, n);
+    if sum {
+        let check = wire::checksum(reply, n + 3);
+        wire::put_byte(reply, n + 3, check);
+        return n + 4;
+    }
+    n + 3
+}
+
+// A reply whose data is n bytes of src from a place on.
+pub fn write_reply(
+    reply: &mut [u8],
+    status: usize,
+    src: &[u8],
+    from: usize,
+    n: usize,
+    sum: bool,
+) -> usize
+    requires { ⌜ (status < 256) × (n < 65536) × (n + 4 ≤ length (now reply)) × (from + n ≤ length (now src)) ⌝ }
+    ensures { λ r. ⌜ (r ≡ length (replyBytes sum status (take n (drop from (now (src .entry))))))
+        × (now (reply .exit) ≡ over (replyBytes sum status (take n (drop from (now (src .entry))))) (now (reply .entry))) ⌝ }
+{
+    wire::copy(&mut reply[3..], 0, src, from, n);
+    seal(reply, status, n, sum)
+}

@@ -1,0 +1,90 @@
+-- Where the settings stand in the block: "the settings lent as a block of 1,024 bytes whose layout the team fixes in docs/" (docs/LAYOUT.md).
+-- In opcode order, each command's fields in the order of its write data, without the pin or port byte.
+use Prim.Native.Nat.{ℕ, _+_, _*_}
+use mathlib.Core.Bool.{cond}
+use mathlib.Core.List.{List, [], _∷_}
+use lib.ListN.{take, drop}
+use lib.Seq.{paste}
+use lib.Dec.{eqb}
+use Rattle.wire.specs.Numbers.{byteAt, wordAt}
+use Rattle.opcode.specs.Commands.{commandOf}
+
+abbrev pub blockSize : ℕ
+blockSize = 1024
+
+-- A command's first stored byte, and the bytes from one pin's or port's to the next one's.
+pub record Place : Type 0 where
+  pub opcode : ℕ
+  pub first : ℕ
+  pub step : ℕ
+
+abbrev pub at : ℕ → ℕ → Place
+at op first = record { opcode = op; first = first; step = 0 }
+
+abbrev pub eachAt : ℕ → ℕ → ℕ → Place
+eachAt op first step = record { opcode = op; first = first; step = step }
+
+-- 60h stores direction, level and drain for each pin. "60h and 61h share one level per pin".
+abbrev pub places : List Place
+places =
+    at 0x11 0
+    ∷ at 0x12 1
+    ∷ at 0x13 2
+    ∷ at 0x1A 4
+    ∷ at 0x1B 5
+    ∷ at 0x1C 6
+    ∷ at 0x1D 7
+    ∷ at 0x36 201
+    ∷ at 0x39 497
+    ∷ eachAt 0x60 498 3
+    ∷ eachAt 0x61 499 3
+    ∷ eachAt 0x65 762 6
+    ∷ at 0x6C 834
+    ∷ eachAt 0x6D 835 10
+    ∷ []
+
+abbrev pub placeIn : ℕ → List Place → Place
+placeIn op [] = at 0 0
+placeIn op (p ∷ ps) = cond (eqb op (p .opcode)) p (placeIn op ps)
+
+-- Ports 0-10 and then 13 of 65h; else the pin or port itself.
+abbrev pub slot : ℕ → ℕ → ℕ
+slot op port = cond (eqb op 0x65) (cond (eqb port 13) 11 port) port
+
+-- The place of what a fixed command stores, from its data, whose first byte is the pin or port where it has one.
+unfoldable pub placeOf : ℕ → List ℕ → ℕ
+placeOf op d = placeIn op places .first + placeIn op places .step * slot op (byteAt d 0)
+
+-- Places of 35h (staged), 36h (enable, then live as at 35h's) and 38h.
+abbrev pub stagedShape : ℕ
+stagedShape = 8
+
+abbrev pub enable : ℕ
+enable = 201
+
+abbrev pub liveShape : ℕ
+liveShape = 202
+
+abbrev pub smoothTable : ℕ
+smoothTable = 395
+
+-- Mode, columns, rows, 62 and then 32 list entries.
+abbrev pub shapeSize : ℕ
+shapeSize = 193
+
+-- Of a shape that stands at a place.
+abbrev pub modeAt : List ℕ → ℕ → ℕ
+modeAt block shape = byteAt block shape
+
+abbrev pub columnsAt : List ℕ → ℕ → ℕ
+columnsAt block shape = wordAt block (shape + 1)
+
+abbrev pub rowsAt : List ℕ → ℕ → ℕ
+rowsAt block shape = wordAt block (shape + 3)
+
+-- A fixed write moves its data, without the pin or port byte that a read sends too, to its place; a read returns what stands there.
+abbrev pub stored : ℕ → List ℕ → List ℕ → List ℕ
+stored op d block = paste block (placeOf op d) (drop (commandOf op .read) d) (commandOf op .back)
+
+abbrev pub returned : ℕ → List ℕ → List ℕ → List ℕ
+returned op d block = take (commandOf op .back) (drop (placeOf op d) block)

@@ -1,0 +1,59 @@
+-- The range of every stored field. Refusal 1: "a setting, staged or live, lies outside its range below (in mode 1 any shape but 62 × 32;
+-- lists not rising, in either mode)". A field's range is that of the write that stores it.
+use Prim.Native.Nat.{ℕ, zero, suc, _+_}
+use mathlib.Core.Bool.{Bool, true, _&&_, _||_}
+use mathlib.Core.List.{List, [], _∷_, _++_}
+use lib.ListN.{drop}
+use lib.Dec.{eqb}
+use Rattle.opcode.specs.declared.Field.{Field}
+use Rattle.opcode.specs.Fields.{byte, takes, number, wordsAt, rise}
+use Rattle.opcode.specs.Commands.{commandOf}
+use Rattle.settings.specs.Layout.{stagedShape, enable, liveShape, smoothTable, modeAt, columnsAt, rowsAt}
+
+-- A command's stored fields, and those behind the pin or port byte.
+abbrev pub fieldsOf : ℕ → List Field
+fieldsOf op = commandOf op .sets
+
+abbrev pub behindPort : ℕ → List Field
+behindPort op = drop 1 (fieldsOf op)
+
+-- The same fields for each of n pins or ports.
+abbrev pub forEach : ℕ → List Field → List Field
+forEach zero fs = []
+forEach (suc n) fs = fs ++ forEach n fs
+
+-- From place 0: 11h, 12h, 13h, 1Ah, 1Bh, 1Ch, 1Dh.
+unfoldable pub pictureFields : List Field
+pictureFields =
+    fieldsOf 0x11 ++ fieldsOf 0x12 ++ fieldsOf 0x13 ++ fieldsOf 0x1A ++ fieldsOf 0x1B ++ fieldsOf 0x1C ++ fieldsOf 0x1D
+
+-- From place 497: update mode (39h: 0 alone), 88 pins, 12 PWM ports, EEPROM lock, 3 UART ports.
+unfoldable pub deviceFields : List Field
+deviceFields =
+    (byte 0 0 ∷ []) ++ forEach 88 (behindPort 0x60) ++ forEach 12 (behindPort 0x65) ++ fieldsOf 0x6C ++ forEach 3 (behindPort 0x6D)
+
+-- Every one of these fields, one behind the other from a place of the block on, takes its number.
+unfoldable pub right : List Field → List ℕ → ℕ → Bool
+right [] block place = true
+right (f ∷ fs) block place = takes f (number (f .size) block place) && right fs block (place + f .size)
+
+-- "strictly rising": n entries from a place on.
+abbrev pub rising : List ℕ → ℕ → ℕ → Bool
+rising block place n = eqb (rise (wordsAt block place n)) n
+
+-- The shape rule, of a shape at a place: mode 0 with columns 2-62 and rows 2-32, or mode 1 with exactly 62 and 32; and in either mode
+-- both lists rising. No single write carries all of it.
+unfoldable pub shapeRight : List ℕ → ℕ → Bool
+shapeRight block shape =
+    (right (fieldsOf 0x35) block shape
+    && (eqb (modeAt block shape) 0 || (eqb (columnsAt block shape) 62 && eqb (rowsAt block shape) 32)))
+    && (rising block (shape + 5) 62 && rising block (shape + 129) 32)
+
+unfoldable pub settingsRight : List ℕ → Bool
+settingsRight block =
+    right pictureFields block 0
+    && shapeRight block stagedShape
+    && right (fieldsOf 0x36) block enable
+    && shapeRight block liveShape
+    && right (fieldsOf 0x38) block smoothTable
+    && right deviceFields block 497

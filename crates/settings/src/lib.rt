@@ -1,0 +1,1 @@
+// The settings block: what its bytes mean, which values they may have, and what they are after reset (see specs/).

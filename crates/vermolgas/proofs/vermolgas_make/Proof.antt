@@ -1,0 +1,40 @@
+-- Status and size are packed side by side, and a made packet is no longer than 512 bytes.
+use Prim.Native.Nat.{_≤_}
+use mathlib.Core.Path.{ap, subst, sym}
+use native.Mathlib.Omega.{arith}
+use borrow.Author.Needs.{needs}
+use Rattle.packet.specs.Making.{Made}
+use Rattle.packet.proofs.Within.{made-within}
+use Rattle.vermolgas.specs.Packed.{packedMade}
+use Rattle.vermolgas.proofs.vermolgas_make.Statement.{statement}
+use Rattle.vermolgas.proofs.vermolgas_make.Tie as tie
+
+small : (c : tie.After-struct-known) → c .before .before .before .make .result .size ≤ 512
+small c =
+    let args = c .before .before .before .before .before .before .before .args in
+    subst (λ (m : Made). m .size ≤ 512) (sym (c .before .before .before .make .ensures))
+    (made-within (args .opcode) (args .options) (args .«data» .now) (args .buffer .now))
+
+make-requires : tie.Need-make-requires
+make-requires c κs = search needs
+
+cast-result : tie.Need-cast-result
+cast-result c = search needs
+
+mul-result : tie.Need-mul-result
+mul-result c = omega (arith, small c)
+
+add-result : tie.Need-add-result
+add-result c = omega (arith, small c)
+
+same-length : tie.Need-same-length
+same-length c = search needs
+
+returns : tie.Need-returns
+returns c =
+    let e = c .before .before .before .make .ensures in
+    (ap packedMade e, ap (λ (m : Made). m .buffer) e)
+
+pub vermolgas-make-spec : {M : Type 1} → statement M
+vermolgas-make-spec =
+    tie.close (tie.spec make-requires cast-result mul-result add-result same-length returns)

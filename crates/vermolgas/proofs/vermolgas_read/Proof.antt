@@ -1,0 +1,96 @@
+-- A command's values are packed side by side, and none of them is large; a refusal has nothing beside its number.
+use Prim.Native.Nat.{_≤_}
+use mathlib.Core.Path.{_≡_, sym, ap, _∙_, subst}
+use native.Mathlib.Omega.{arith}
+use borrow.Author.Needs.{needs}
+use Rattle.packet.specs.Reading.{Answer, reading}
+use Rattle.packet.proofs.Within.{Within, reading-within}
+use Rattle.vermolgas.specs.Packed.{packedReading}
+use Rattle.vermolgas.proofs.vermolgas_read.Statement.{statement}
+use Rattle.vermolgas.proofs.vermolgas_read.Tie as tie
+
+-- What the pattern took apart is what reading gives.
+command : (c : tie.After-known-told)
+    → record {
+      number = 0;
+      opcode = c .before .r .given .0 .0;
+      options = c .before .r .given .0 .1 .0;
+      place = c .before .r .given .0 .1 .1 .0;
+      size = c .before .r .given .0 .1 .1 .1 .0;
+    }
+    ≡ reading (c .before .before .before .before .before .args .packet .now)
+command c = rw (c .before .r .given .1) at (c .before .before .before .read .ensures)
+
+small : (c : tie.After-known-told) → (c .before .r .given .0 .1 .1 .0 ≤ 5) × (c .before .r .given .0 .1 .1 .1 .0 ≤ 512)
+small c =
+    let p = c .before .before .before .before .before .args .packet .now in
+    let w = subst (λ (a : Answer). Within a p) (sym (command c)) (reading-within p) in
+    (w .place, w .size)
+
+read-requires : tie.Need-read-requires
+read-requires c κs = search needs
+
+enum-known-r : tie.Need-enum-known-r
+enum-known-r c = search needs
+
+enum-told : tie.Need-enum-told
+enum-told c = search needs
+
+read-refusal-requires : tie.Need-read-refusal-requires
+read-refusal-requires c κs = search needs
+
+returns : tie.Need-returns
+returns c =
+    let told = c .before in
+    let refused = rw (told .enum-told .given .1) at (told .before .before .read .ensures) in
+    c .read-refusal .ensures ∙ rw (told .enum-told .given .1) (omega (arith, ap packedReading refused))
+
+cast-result : tie.Need-cast-result
+cast-result c = search needs
+
+mul-result : tie.Need-mul-result
+mul-result c = search needs
+
+cast-result-2 : tie.Need-cast-result-2
+cast-result-2 c = search needs
+
+mul-result-2 : tie.Need-mul-result-2
+mul-result-2 c = search needs
+
+add-result : tie.Need-add-result
+add-result c = search needs
+
+mul-result-3 : tie.Need-mul-result-3
+mul-result-3 c = omega (arith, small c)
+
+add-result-2 : tie.Need-add-result-2
+add-result-2 c = omega (arith, small c)
+
+mul-result-4 : tie.Need-mul-result-4
+mul-result-4 c = omega (arith, small c)
+
+add-result-3 : tie.Need-add-result-3
+add-result-3 c = omega (arith, small c)
+
+returns-2 : tie.Need-returns-2
+returns-2 c = omega (arith, ap packedReading (command c))
+
+pub vermolgas-read-spec : {M : Type 1} → statement M
+vermolgas-read-spec =
+    tie.close
+    (tie.spec
+    read-requires
+    enum-known-r
+    enum-told
+    read-refusal-requires
+    returns
+    cast-result
+    mul-result
+    cast-result-2
+    mul-result-2
+    add-result
+    mul-result-3
+    add-result-2
+    mul-result-4
+    add-result-3
+    returns-2)

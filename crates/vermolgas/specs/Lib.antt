@@ -1,0 +1,2 @@
+-- How the C entries pack an answer into one number.
+pub mod Packed

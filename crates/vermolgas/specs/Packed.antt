@@ -1,0 +1,19 @@
+-- "exported extern "C" entries .. return a status and length packed in a number". Every answer is 64 bits; docs/INTERFACE.md has the table.
+use Prim.Native.Nat.{ℕ, _+_, _*_}
+use Rattle.packet.specs.Reading.{Answer}
+use Rattle.packet.specs.Making.{Made}
+use Rattle.reply.specs.Reading.{ReplyAnswer}
+
+-- The refusal in bits 0-7; opcode in 8-15, header bits 3-7 in place in 16-23, offset of the data in 24-31, data length from 32 on. An answer
+-- that is a refusal has 0 in all of these.
+abbrev pub packedReading : Answer → ℕ
+packedReading a =
+    a .number + 256 * a .opcode + 65536 * a .options + 16777216 * a .place + 4294967296 * a .size
+
+-- Status in bits 0-7, the packet's length from 8 on.
+abbrev pub packedMade : Made → ℕ
+packedMade m = m .status + 256 * m .size
+
+-- The refusal in bits 0-7, the reply's status in 8-15, its data length from 16 on; the data is at offset 3.
+abbrev pub packedReply : ReplyAnswer → ℕ
+packedReply r = r .number + 256 * r .status + 65536 * r .size

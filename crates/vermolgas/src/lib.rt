@@ -1,0 +1,64 @@
+// The C entries (include/vermolgas.h): each calls the Rattle function of its name and packs the answer into a number.
+use packet::Reading;
+use reply::ReplyReading;
+ghost use mathlib.Core.Path.{_≡_};
+ghost use mathlib.Core.Bool.{not};
+ghost use lib.Dec.{eqb};
+ghost use Rattle.packet.specs.Reading.{answer, reading};
+ghost use Rattle.packet.specs.Making.{made};
+ghost use Rattle.reply.specs.Reading.{«answer» as replyAnswer, replyReading};
+ghost use Rattle.vermolgas.specs.Packed.{packedReading, packedMade, packedReply};
+
+// Reads a packet.
+#[no_mangle]
+pub extern "C" fn vermolgas_read(packet: &[u8]) -> u64
+    ensures { λ r. ⌜ r ≡ packedReading (reading (now (packet .entry))) ⌝ }
+{
+    let r = packet::read(packet);
+    let Reading::Command { opcode, options, at, size } = r else {
+        return read_refusal(r);
+    };
+    256 * opcode as u64 + 65536 * options as u64 + 16777216 * at as u64 + 4294967296 * size as u64
+}
+
+// The refusal of a reading that is one.
+fn read_refusal(r: Reading) -> u64
+    ensures { λ n. ⌜ n ≡ answer r .number ⌝ }
+{
+    match r {
+        Reading::Refused(why) => why.number as u64,
+        Reading::Command { opcode: _, options: _, at: _, size: _ } => 0,
+    }
+}
+
+// Makes a packet in the buffer; of the options bits 3 to 7 count.
+#[no_mangle]
+pub extern "C" fn vermolgas_make(opcode: u16, options: u8, data: &[u8], buffer: &mut [u8]) -> u64
+    ensures { λ r. ⌜ (r ≡ packedMade (made opcode options (now («data» .entry)) (now (buffer .entry))))
+        × (now (buffer .exit) ≡ made opcode options (now («data» .entry)) (now (buffer .entry)) .buffer) ⌝ }
+{
+    let m = packet::make(opcode, options, data, buffer);
+    m.status as u64 + 256 * m.size as u64
+}
+
+// Reads a reply; a checksum is expected unless the second argument is 0.
+#[no_mangle]
+pub extern "C" fn vermolgas_read_reply(reply: &[u8], checksum: u8) -> u64
+    ensures { λ r. ⌜ r ≡ packedReply (replyReading (now (reply .entry)) (not (eqb checksum 0))) ⌝ }
+{
+    let r = reply::read_reply(reply, checksum != 0);
+    let ReplyReading::Reply { status, size } = r else {
+        return reply_refusal(r);
+    };
+    256 * status as u64 + 65536 * size as u64
+}
+
+// The refusal of a reply's reading that is one.
+fn reply_refusal(r: ReplyReading) -> u64
+    ensures { λ n. ⌜ n ≡ replyAnswer r .number ⌝ }
+{
+    match r {
+        ReplyReading::Refused(why) => why.number as u64,
+        ReplyReading::Reply { status: _, size: _ } => 0,
+    }
+}

@@ -1,0 +1,68 @@
+-- A number past the end; the checksum as a loop computes it; runs of stores; and the loop that copies.
+-- Whoever cites a checksum needs only that it is below 256.
+use Prim.Native.Nat.{ℕ, suc, _+_, _%_, _≤_, _<_}
+use mathlib.Core.Path.{_≡_, refl, _∙_}
+use mathlib.Core.List.{List, [], _∷_, _++_}
+use native.Mathlib.Nat.{add-zero}
+use native.Mathlib.Numerals.{add-one}
+use native.Mathlib.Omega.{arith}
+use lib.ListN.{length, take, getD, set, length-set, List·getD-eq-default}
+use lib.Seq.{take-suc, sets, paste, paste-zero, paste-suc}
+use Rattle.wire.specs.Numbers.{byteAt, wordAt}
+use Rattle.wire.specs.Checksum.{total, checksum}
+
+-- Past the end stands 0.
+pub byte-past : (s : List ℕ) (i : ℕ) → length s ≤ i → byteAt s i ≡ 0
+byte-past s i h = List·getD-eq-default s 0 h
+
+pub word-past : (s : List ℕ) (i : ℕ) → length s ≤ i → wordAt s i ≡ 0
+word-past s i h = omega (arith, byte-past s i h, byte-past s (i + 1) (omega arith))
+
+pub total-append : (s t : List ℕ) → total (s ++ t) ≡ total s + total t
+unfolding total
+total-append [] t = omega arith
+total-append (x ∷ s) t = omega (arith, total-append s t)
+
+-- One byte more.
+pub total-turn : (s : List ℕ) (i : ℕ) → i < length s → total (take (i + 1) s) ≡ total (take i s) + getD s i 0
+unfolding total
+total-turn s i h = rw (add-one, take-suc s i 0, total-append) (omega arith)
+
+pub checksum-below : (s : List ℕ) → checksum s < 256
+unfolding checksum
+checksum-below s = omega arith
+
+-- The loop that sums: where it begins, and a turn.
+pub checksum-none : (s : List ℕ) → 0 ≡ checksum (take 0 s)
+unfolding total checksum
+checksum-none s = refl
+
+pub checksum-turn : (s : List ℕ) (i : ℕ) → i < length s → (checksum (take i s) + getD s i 0) % 256 ≡ checksum (take (i + 1) s)
+unfolding checksum
+checksum-turn s i h = rw total-turn (omega arith)
+
+-- A run of stores behind another is one run.
+pub sets-append : (l : List ℕ) (i : ℕ) (s t : List ℕ) → sets (sets l i s) (i + length s) t ≡ sets l i (s ++ t)
+sets-append l i [] t = rw (add-zero i)
+sets-append l i (x ∷ s) t = let e : i + suc (length s) ≡ suc i + length s = omega arith in rw e (sets-append (set l i x) (suc i) s t)
+
+-- The first i of n elements of src stand in dst from a place on: what a loop that copies them one by one keeps.
+pub record Copying (dst₀ : List ℕ) (at : ℕ) (src : List ℕ) (n : ℕ) (dst : List ℕ) (i : ℕ) : Type 0 where
+  pub within : i ≤ n
+  pub copied : dst ≡ paste dst₀ at src i
+  pub long : length dst ≡ length dst₀
+
+pub start : (dst : List ℕ) (at : ℕ) (src : List ℕ) (n : ℕ) → Copying dst at src n dst 0
+start dst at src n = record { within = omega arith; copied = paste-zero dst at src; long = refl }
+
+pub turn : {dst₀ : List ℕ} {at : ℕ} {src : List ℕ} {n : ℕ} {dst : List ℕ} {i v : ℕ} → at + n ≤ length dst₀ → n ≤ length src → i < n
+    → v ≡ getD src i 0 → Copying dst₀ at src n dst i → Copying dst₀ at src n (set dst (at + i) v) (i + 1)
+turn {dst₀} {at} {src} {n} {dst} {i} {v} hd hs h e r =
+    record {
+      within = omega arith;
+      copied = rw (r .copied, e, add-one) (paste-suc dst₀ at src i 0 (omega arith) (omega arith));
+      long = length-set dst (at + i) v ∙ r .long;
+    }
+
+pub done : {dst₀ : List ℕ} {at : ℕ} {src : List ℕ} {n : ℕ} {dst : List ℕ} {i : ℕ} → n ≤ i → Copying dst₀ at src n dst i → dst ≡ paste dst₀ at src n
+done {dst₀} {at} {src} {n} {dst} {i} h r = let e : i ≡ n = omega arith in rw e at (r .copied)

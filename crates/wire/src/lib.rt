@@ -1,0 +1,90 @@
+// Bytes and numbers: what every layer above reads, sums and copies with.
+ghost use mathlib.Core.Path.{_≡_};
+ghost use Prim.Native.Nat.{_+_, _<_, _≤_};
+ghost use mathlib.Core.List.{[], _∷_};
+ghost use lib.ListN.{length, take, drop};
+ghost use lib.Seq.{paste, sets};
+ghost use Rattle.wire.specs.Numbers.{byteAt, wordAt, longAt, wordBytes};
+ghost use Rattle.wire.specs.Checksum.{«checksum»};
+
+// Why something was refused: document 01's number, 0 where nothing was.
+pub struct Refusal {
+    pub number: u8,
+}
+
+// The byte at i, 0 past the end: a place that a packet does not have needs no test of its own.
+pub fn byte(s: &[u8], i: usize) -> usize
+    ensures { λ r. ⌜ (r ≡ byteAt (now (s .entry)) i) × (r < 256) ⌝ }
+{
+    if i < s.len() { s[i] as usize } else { 0 }
+}
+
+// The 16-bit number at i, low byte first.
+pub fn word(s: &[u8], i: usize) -> usize
+    ensures { λ r. ⌜ (r ≡ wordAt (now (s .entry)) i) × (r < 65536) ⌝ }
+{
+    if i < s.len() {
+        byte(s, i) + 256 * byte(s, i + 1)
+    } else {
+        0
+    }
+}
+
+// The 32-bit number at i, low byte first.
+pub fn long(s: &[u8], i: usize) -> usize
+    ensures { λ r. ⌜ (r ≡ longAt (now (s .entry)) i) × (r < 4294967296) ⌝ }
+{
+    if i < s.len() {
+        let low = word(s, i);
+        if i + 1 < s.len() {
+            low + 65536 * word(s, i + 2)
+        } else {
+            low
+        }
+    } else {
+        0
+    }
+}
+
+// The checksum of the first n bytes.
+pub fn checksum(s: &[u8], n: usize) -> usize
+    requires { ⌜ n ≤ length (now s) ⌝ }
+    ensures { λ r. ⌜ (r ≡ «checksum» (take n (now (s .entry)))) × (r < 256) ⌝ }
+{
+    let mut sum: usize = 0;
+    let mut i = 0;
+    while i < n {
+        sum = (sum + s[i] as usize) % 256;
+        i += 1;
+    }
+    sum
+}
+
+// Copies n bytes of src, from a place on, over those of dst from a place on.
+pub fn copy(dst: &mut [u8], at: usize, src: &[u8], from: usize, n: usize)
+    requires { ⌜ (at + n ≤ length (now dst)) × (from + n ≤ length (now src)) ⌝ }
+    ensures { λ _. ⌜ now (dst .exit) ≡ paste (now (dst .entry)) at (drop from (now (src .entry))) n ⌝ }
+{
+    let mut k = 0;
+    while k < n {
+        dst[at + k] = src[from + k];
+        k += 1;
+    }
+}
+
+// Stores a byte: the lowest eight bits of v.
+pub fn put_byte(dst: &mut [u8], at: usize, v: usize)
+    requires { ⌜ (at < length (now dst)) × (v < 256) ⌝ }
+    ensures { λ _. ⌜ now (dst .exit) ≡ sets (now (dst .entry)) at (v ∷ []) ⌝ }
+{
+    dst[at] = (v % 256) as u8;
+}
+
+// Stores a 16-bit number, low byte first.
+pub fn put_word(dst: &mut [u8], at: usize, v: usize)
+    requires { ⌜ (at + 1 < length (now dst)) × (v < 65536) ⌝ }
+    ensures { λ _. ⌜ now (dst .exit) ≡ sets (now (dst .entry)) at (wordBytes v) ⌝ }
+{
+    dst[at] = (v % 256) as u8;
+    dst[at + 1] = (v / 256 % 256) as u8;
+}

@@ -1,0 +1,121 @@
+/* The header as a C11 host uses it: bench packets of document 01 through the entries and macros. */
+#include "vermolgas.h"
+
+#include <stdio.h>
+#include <string.h>
+
+static unsigned passed, failed;
+
+/* Counts one check, and says which line failed. */
+#define CHECK(holds) check((holds), #holds, __LINE__)
+
+static void check(int holds, const char *what, int line)
+{
+    if (holds) {
+        passed++;
+    } else {
+        failed++;
+        printf("FAILED header.c:%d: %s\n", line, what);
+    }
+}
+
+/* A packet or reply with its length, from a list of bytes. */
+#define BYTES(...) (const uint8_t[]){__VA_ARGS__}, sizeof((const uint8_t[]){__VA_ARGS__})
+
+static void read_packets(void)
+{
+    uint64_t display = vermolgas_read(BYTES(0x04, 0x11, 0x01));
+    CHECK(VERMOLGAS_STATUS(display) == VERMOLGAS_ACCEPTED);
+    CHECK(VERMOLGAS_READ_OPCODE(display) == 0x11);
+    CHECK(VERMOLGAS_READ_OPTIONS(display) == 0);
+    CHECK(VERMOLGAS_READ_OFFSET(display) == 2);
+    CHECK(VERMOLGAS_READ_LENGTH(display) == 1);
+
+    uint64_t two_bytes = vermolgas_read(BYTES(0x0C, 0x11, 0x00, 0x01));
+    CHECK(VERMOLGAS_STATUS(two_bytes) == VERMOLGAS_ACCEPTED);
+    CHECK(VERMOLGAS_READ_OPCODE(two_bytes) == 0x11);
+    CHECK(VERMOLGAS_READ_OPTIONS(two_bytes) == VERMOLGAS_OPTION_TWO_BYTE_OPCODE);
+    CHECK(VERMOLGAS_READ_OFFSET(two_bytes) == 3);
+
+    uint64_t point = vermolgas_read(BYTES(0x14, 0x34, 0x06, 0x00, 0xBF, 0x07, 0x01, 0x00, 0x02, 0x00));
+    CHECK(VERMOLGAS_STATUS(point) == VERMOLGAS_ACCEPTED);
+    CHECK(VERMOLGAS_READ_OPTIONS(point) == VERMOLGAS_OPTION_LENGTH);
+    CHECK(VERMOLGAS_READ_OFFSET(point) == 4);
+    CHECK(VERMOLGAS_READ_LENGTH(point) == 6);
+
+    uint64_t read = vermolgas_read(BYTES(0x84, 0x11));
+    CHECK(VERMOLGAS_READ_OPTIONS(read) == VERMOLGAS_OPTION_READ);
+    CHECK(VERMOLGAS_READ_LENGTH(read) == 0);
+
+    uint64_t asking = vermolgas_read(BYTES(0x64, 0x11, 0x01, 0x76));
+    CHECK(VERMOLGAS_READ_OPTIONS(asking) == (VERMOLGAS_OPTION_CHECKSUM | VERMOLGAS_OPTION_REPLY));
+}
+
+static void refuse_packets(void)
+{
+    CHECK(vermolgas_read(NULL, 0) == VERMOLGAS_REFUSED_TOO_SHORT);
+    CHECK(vermolgas_read(BYTES(0x24, 0x11)) == VERMOLGAS_REFUSED_TOO_SHORT);
+    CHECK(vermolgas_read(BYTES(0x14, 0x11, 0x02, 0x00, 0x01)) == VERMOLGAS_REFUSED_LENGTH);
+    CHECK(vermolgas_read(BYTES(0x24, 0x11, 0x01, 0x37)) == VERMOLGAS_REFUSED_CHECKSUM);
+    CHECK(vermolgas_read(BYTES(0x03, 0x11, 0x01)) == VERMOLGAS_REFUSED_DESTINATION);
+    CHECK(vermolgas_read(BYTES(0x0C, 0x11, 0x01, 0x01)) == VERMOLGAS_REFUSED_OPCODE);
+    CHECK(vermolgas_read(BYTES(0x04, 0x34, 0x00, 0x00, 0x08, 0x00, 0x10, 0x00)) == VERMOLGAS_REFUSED_LENGTH_MISSING);
+    CHECK(vermolgas_read(BYTES(0x14, 0x34, 0x02, 0x00, 0x00, 0x00)) == VERMOLGAS_REFUSED_SIZE);
+    CHECK(vermolgas_read(BYTES(0x04, 0x11, 0x05)) == VERMOLGAS_REFUSED_RANGE);
+    CHECK(vermolgas_read(BYTES(0x04, 0x39, 0x01)) == VERMOLGAS_REFUSED_NOT_CARRIED);
+
+    static const uint8_t long_packet[VERMOLGAS_LONGEST + 1] = {0x04, 0x11};
+    CHECK(vermolgas_read(long_packet, sizeof long_packet) == VERMOLGAS_REFUSED_TOO_LONG);
+}
+
+static void make_packets(void)
+{
+    uint8_t buffer[VERMOLGAS_LONGEST], untouched[VERMOLGAS_LONGEST];
+    memset(buffer, 0xAA, sizeof buffer);
+    memset(untouched, 0xAA, sizeof untouched);
+
+    CHECK(vermolgas_make(0x11, 0, BYTES(0x05), buffer, sizeof buffer) == VERMOLGAS_REFUSED_RANGE);
+    CHECK(vermolgas_make(0x111, 0, BYTES(0x01), buffer, sizeof buffer) == VERMOLGAS_REFUSED_OPCODE);
+    CHECK(vermolgas_make(0x11, 0, BYTES(0x01), buffer, sizeof buffer - 1) == VERMOLGAS_REFUSED_LENT);
+    CHECK(vermolgas_make(0x11, 0, BYTES(0x01), NULL, 0) == VERMOLGAS_REFUSED_LENT);
+    CHECK(memcmp(buffer, untouched, sizeof buffer) == 0);
+
+    uint64_t made = vermolgas_make(0x11, VERMOLGAS_OPTION_CHECKSUM, BYTES(0x01), buffer, sizeof buffer);
+    CHECK(VERMOLGAS_STATUS(made) == VERMOLGAS_ACCEPTED);
+    CHECK(VERMOLGAS_MAKE_LENGTH(made) == 4);
+    CHECK(memcmp(buffer, (const uint8_t[]){0x24, 0x11, 0x01, 0x36}, 4) == 0);
+    CHECK(memcmp(buffer + 4, untouched + 4, sizeof buffer - 4) == 0);
+
+    made = vermolgas_make(0x11, VERMOLGAS_OPTION_READ, NULL, 0, buffer, sizeof buffer);
+    CHECK(VERMOLGAS_MAKE_LENGTH(made) == 2);
+    CHECK(memcmp(buffer, (const uint8_t[]){0x84, 0x11}, 2) == 0);
+}
+
+static void read_replies(void)
+{
+    uint64_t display = vermolgas_read_reply(BYTES(0x00, 0x01, 0x00, 0x01), 0);
+    CHECK(VERMOLGAS_STATUS(display) == VERMOLGAS_ACCEPTED);
+    CHECK(VERMOLGAS_REPLY_STATUS(display) == 0);
+    CHECK(VERMOLGAS_REPLY_LENGTH(display) == 1);
+
+    uint64_t refused = vermolgas_read_reply(BYTES(0x0C, 0x00, 0x00, 0x0C), 1);
+    CHECK(VERMOLGAS_STATUS(refused) == VERMOLGAS_ACCEPTED);
+    CHECK(VERMOLGAS_REPLY_STATUS(refused) == VERMOLGAS_REFUSED_PAST_TABLE);
+    CHECK(VERMOLGAS_REPLY_LENGTH(refused) == 0);
+
+    CHECK(vermolgas_read_reply(NULL, 0, 0) == VERMOLGAS_REFUSED_TOO_SHORT);
+    CHECK(vermolgas_read_reply(BYTES(0x00, 0x00, 0x00), 1) == VERMOLGAS_REFUSED_TOO_SHORT);
+    CHECK(vermolgas_read_reply(BYTES(0x00, 0x02, 0x00, 0x01), 0) == VERMOLGAS_REFUSED_LENGTH);
+    CHECK(vermolgas_read_reply(BYTES(0x00, 0x00, 0x00, 0x01), 1) == VERMOLGAS_REFUSED_CHECKSUM);
+    CHECK(vermolgas_read_reply(BYTES(0x0D, 0x00, 0x00), 0) == VERMOLGAS_REFUSED_RANGE);
+}
+
+int main(void)
+{
+    read_packets();
+    refuse_packets();
+    make_packets();
+    read_replies();
+    printf("%u passed, %u failed\n", passed, failed);
+    return failed == 0 ? 0 : 1;
+}

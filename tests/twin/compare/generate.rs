@@ -1,0 +1,135 @@
+//! Commands with values inside their ranges, at the limits half of the time.
+
+use std::collections::BTreeSet;
+
+use twin::command::{Colour, Command, Direction, Opcode, Read, Target, Write};
+use twin::settings::{ControlPoints, Lists, Pin, Point, Pwm, Uart, PWM_PORTS};
+
+use crate::random::Random;
+
+/// A command of this opcode and direction, its data at most `room` bytes.
+pub fn command(random: &mut Random, opcode: Opcode, direction: Direction, room: usize) -> Command {
+    match direction {
+        Direction::Write => Command::Write(write(random, opcode, room)),
+        Direction::Read => Command::Read(read(random, opcode)),
+    }
+}
+
+fn write(random: &mut Random, opcode: Opcode, room: usize) -> Write {
+    match opcode {
+        Opcode::Display => Write::Display(random.byte_within(0..=4)),
+        Opcode::LowLatency => Write::LowLatency(random.flag()),
+        Opcode::Look => Write::Look(random.word()),
+        Opcode::CurtainColour => Write::CurtainColour(random.pick(&[0, 2, 3, 4, 5, 6, 7, 8])),
+        Opcode::SplashImage => Write::SplashImage(random.byte()),
+        Opcode::Flip => Write::Flip(random.byte_within(0..=3)),
+        Opcode::Freeze => Write::Freeze(random.flag()),
+        Opcode::Gains => Write::Gains {
+            target: random.pick(&[
+                Target::All,
+                Target::One(Colour::Red),
+                Target::One(Colour::Green),
+                Target::One(Colour::Blue),
+            ]),
+            start: random.word(),
+            words: (0..count(random, (room - 6) / 2)).map(|_| random.word_within(0..=8191)).collect(),
+        },
+        Opcode::Map => Write::Map { start: random.word(), points: points(random, (room - 2) / 4) },
+        Opcode::ControlPoints => Write::ControlPoints(if random.flag() && room >= 189 {
+            ControlPoints::Listed(Lists { columns: rising(random), rows: rising(random) })
+        } else {
+            ControlPoints::Even { columns: random.word_within(2..=62), rows: random.word_within(2..=32) }
+        }),
+        Opcode::Apply => Write::Apply(random.flag()),
+        Opcode::SmoothTable => {
+            let (columns, rows) = (random.byte_within(3..=5), random.byte_within(3..=5));
+            let points = (0..columns * rows).map(|_| point(random)).collect();
+            Write::SmoothTable { columns, rows, points }
+        }
+        Opcode::UpdateMode => Write::UpdateMode,
+        Opcode::Pin => Write::Pin {
+            pin: random.byte_within(0..=87),
+            config: Pin { direction: random.flag(), level: random.flag(), drain: random.flag() },
+        },
+        Opcode::PinLevel => Write::PinLevel { pin: random.byte_within(0..=87), level: random.flag() },
+        Opcode::Pwm => Write::Pwm {
+            port: random.pick(&PWM_PORTS),
+            config: Pwm {
+                frequency: random.within(20..=10_390_000),
+                duty: random.byte_within(0..=100),
+                on: random.flag(),
+            },
+        },
+        Opcode::EepromLock => Write::EepromLock(random.flag()),
+        Opcode::Uart => Write::Uart {
+            port: random.byte_within(0..=2),
+            config: Uart {
+                on: random.flag(),
+                baud: random.byte_within(0..=11),
+                bits: random.byte_within(0..=3),
+                stop: random.flag(),
+                parity: random.byte_within(0..=2),
+                flow: random.flag(),
+                triggers: [random.byte_within(0..=4), random.byte_within(0..=4)],
+                polarity: random.flag(),
+                source: random.flag(),
+            },
+        },
+    }
+}
+
+fn read(random: &mut Random, opcode: Opcode) -> Read {
+    match opcode {
+        Opcode::Display => Read::Display,
+        Opcode::LowLatency => Read::LowLatency,
+        Opcode::Look => Read::Look,
+        Opcode::CurtainColour => Read::CurtainColour,
+        Opcode::SplashImage => Read::SplashImage,
+        Opcode::Flip => Read::Flip,
+        Opcode::Freeze => Read::Freeze,
+        Opcode::Gains => Read::Gains {
+            colour: random.pick(&Colour::ALL),
+            start: random.word(),
+            count: random.word_within(1..=254),
+        },
+        Opcode::Map => Read::Map { start: random.word(), count: random.word_within(1..=127) },
+        Opcode::ControlPoints => Read::ControlPoints,
+        Opcode::Apply => Read::Apply,
+        Opcode::SmoothTable => Read::SmoothTable,
+        Opcode::UpdateMode => Read::UpdateMode,
+        Opcode::Pin => Read::Pin(random.byte_within(0..=87)),
+        Opcode::PinLevel => Read::PinLevel(random.byte_within(0..=87)),
+        Opcode::Pwm => Read::Pwm(random.pick(&PWM_PORTS)),
+        Opcode::EepromLock => Read::EepromLock,
+        Opcode::Uart => Read::Uart(random.byte_within(0..=2)),
+    }
+}
+
+/// From 1 to `most`, small numbers more often.
+fn count(random: &mut Random, most: usize) -> usize {
+    let most = if random.below(3) == 0 { most } else { most.min(8) };
+    random.within(1..=most as u32) as usize
+}
+
+fn point(random: &mut Random) -> Point {
+    Point { x: random.word(), y: random.word() }
+}
+
+fn points(random: &mut Random, most: usize) -> Vec<Point> {
+    (0..count(random, most)).map(|_| point(random)).collect()
+}
+
+/// A strictly rising list: scattered, or without a gap at either end of the numbers.
+pub fn rising<const N: usize>(random: &mut Random) -> [u16; N] {
+    let mut numbers = BTreeSet::new();
+    match random.below(4) {
+        0 => numbers.extend(0..N as u16),
+        1 => numbers.extend(u16::MAX - (N as u16 - 1)..=u16::MAX),
+        _ => {
+            while numbers.len() < N {
+                numbers.insert(random.word());
+            }
+        }
+    }
+    Vec::from_iter(numbers).try_into().expect("N numbers")
+}

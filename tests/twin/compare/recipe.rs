@@ -1,0 +1,195 @@
+//! Packets and replies by their fields, each of which can be made wrong.
+
+use twin::command::{Command, Direction, Opcode};
+use twin::fields::checksum;
+use twin::packet::{Header, LONGEST};
+use twin::refusal::Refusal;
+
+use crate::generate;
+use crate::random::Random;
+
+/// A packet's fields, how far the length field and the checksum are off, and how many bytes of it
+/// are kept.
+#[derive(Clone)]
+pub struct Packet {
+    pub header: u8,
+    pub opcode: u16,
+    pub data: Vec<u8>,
+    pub length_error: u16,
+    pub checksum_error: u8,
+    pub kept: usize,
+}
+
+impl Packet {
+    /// A packet without a fault that carries this data.
+    pub fn new(header: u8, opcode: u16, data: Vec<u8>) -> Self {
+        Packet { header, opcode, data, length_error: 0, checksum_error: 0, kept: usize::MAX }
+    }
+
+    /// A packet without a fault: any command, any options, short enough to take every other field
+    /// and a few bytes more.
+    pub fn sound(random: &mut Random) -> Self {
+        let opcode = random.pick(&Opcode::ALL);
+        let direction = random.pick(&Direction::BOTH);
+        Packet::of(random, opcode, direction)
+    }
+
+    /// The same for this opcode and direction.
+    pub fn of(random: &mut Random, opcode: Opcode, direction: Direction) -> Self {
+        let mut header = 4 | random.byte() & 0x78;
+        if direction == Direction::Read {
+            header |= 0x80;
+        } else if opcode.is_variable() {
+            header |= 0x10;
+        }
+        let data = generate::command(random, opcode, direction, LONGEST - 14).data();
+        Packet::new(header, opcode.number().into(), data)
+    }
+
+    /// The bytes, written field by field.
+    pub fn bytes(&self) -> Vec<u8> {
+        let mut bytes = vec![self.header];
+        let [low, high] = self.opcode.to_le_bytes();
+        bytes.push(low);
+        if self.header & 0x08 != 0 {
+            bytes.push(high);
+        }
+        if self.header & 0x10 != 0 {
+            let length = (self.data.len() as u16).wrapping_add(self.length_error);
+            bytes.extend(length.to_le_bytes());
+        }
+        bytes.extend(&self.data);
+        if self.header & 0x20 != 0 {
+            bytes.push(checksum(&bytes).wrapping_add(self.checksum_error));
+        }
+        bytes.truncate(self.kept);
+        bytes
+    }
+
+    /// This packet with one more fault; none if its command can't have that fault.
+    pub fn spoilt(&self, random: &mut Random, fault: Refusal) -> Option<Self> {
+        let mut packet = self.clone();
+        match fault {
+            Refusal::TooShort => {
+                packet.kept = random.below(Header::from_byte(self.header).options.overhead())
+            }
+            Refusal::TooLong => {
+                // As many bytes as 16 bits would count, or more than 512 by one or a few.
+                let length = random.pick(&[513, 514, 600, 65_536, 65_536 + self.data.len(), 66_048]);
+                let more = length.saturating_sub(self.bytes().len()).max(1);
+                packet.data.extend(random.bytes(more));
+            }
+            Refusal::Length => {
+                packet.header |= 0x10;
+                packet.length_error = random.pick(&[1, 2, 0x100, 0x8000, 0xFF00, 0xFFFF]);
+            }
+            Refusal::Checksum => {
+                packet.header |= 0x20;
+                packet.checksum_error = random.pick(&[1, 2, 0x80, 0xFF]);
+            }
+            Refusal::Destination => packet.header ^= 1 + random.below(7) as u8,
+            Refusal::Opcode if random.flag() => {
+                packet.header |= 0x08;
+                packet.opcode |= 0x100 << random.below(8);
+            }
+            Refusal::Opcode => packet.opcode = other_opcode(random),
+            Refusal::LengthMissing => {
+                packet.header &= !0x10;
+                let (direction, opcode) = packet.command()?;
+                (opcode.is_variable() && direction == Direction::Write).then_some(())?;
+            }
+            Refusal::Size => {
+                if self.fault().is_none() && random.flag() {
+                    packet.data.truncate(random.below(self.data.len() + 1));
+                } else {
+                    let more = 1 + random.below(8);
+                    packet.data.extend(random.bytes(more));
+                }
+                (packet.fault()? == fault).then_some(())?;
+            }
+            Refusal::Range => {
+                // A flag that is at fault already stays.
+                let first = usize::from(self.fault() == Some(Refusal::NotCarried));
+                let places = self.data.len().checked_sub(first).filter(|places| *places > 0)?;
+                packet.data[first + random.below(places)] = random.byte();
+                (packet.fault()? == fault).then_some(())?;
+            }
+            Refusal::NotCarried => {
+                *packet.data.first_mut()? = 1;
+                (packet.fault()? == fault).then_some(())?;
+            }
+            Refusal::Lent | Refusal::PastTable => return None,
+        }
+        Some(packet)
+    }
+
+    fn command(&self) -> Option<(Direction, Opcode)> {
+        Some((Header::from_byte(self.header).direction, Opcode::find(self.opcode)?))
+    }
+
+    /// What is wrong with the data, apart from the frame.
+    fn fault(&self) -> Option<Refusal> {
+        let (direction, opcode) = self.command()?;
+        Command::parse(direction, opcode, &self.data).err()
+    }
+}
+
+/// A one-byte opcode that isn't carried.
+pub fn other_opcode(random: &mut Random) -> u16 {
+    loop {
+        let opcode = random.byte().into();
+        if Opcode::find(opcode).is_none() {
+            return opcode;
+        }
+    }
+}
+
+/// A reply's fields, and what is wrong with them.
+#[derive(Clone)]
+pub struct Reply {
+    pub status: u8,
+    pub data: Vec<u8>,
+    pub with_checksum: bool,
+    pub length_error: u16,
+    pub checksum_error: u8,
+    pub kept: usize,
+}
+
+impl Reply {
+    /// A reply without a fault, if the status is none.
+    pub fn new(status: u8, data: Vec<u8>, with_checksum: bool) -> Self {
+        Reply { status, data, with_checksum, length_error: 0, checksum_error: 0, kept: usize::MAX }
+    }
+
+    pub fn bytes(&self) -> Vec<u8> {
+        let mut bytes = vec![self.status];
+        bytes.extend((self.data.len() as u16).wrapping_add(self.length_error).to_le_bytes());
+        bytes.extend(&self.data);
+        if self.with_checksum {
+            bytes.push(checksum(&bytes).wrapping_add(self.checksum_error));
+        }
+        bytes.truncate(self.kept);
+        bytes
+    }
+
+    /// This reply with one more fault; none for a fault that no reply can have.
+    pub fn spoilt(&self, random: &mut Random, fault: Refusal) -> Option<Self> {
+        let mut reply = self.clone();
+        match fault {
+            Refusal::TooShort => reply.kept = random.below(3 + usize::from(self.with_checksum)),
+            Refusal::TooLong => {
+                let length = random.pick(&[513, 514, 600, 65_536, 65_539 + self.data.len(), 66_048]);
+                let more = length.saturating_sub(self.bytes().len()).max(1);
+                reply.data.extend(random.bytes(more));
+            }
+            Refusal::Length => reply.length_error = random.pick(&[1, 2, 0x100, 0x8000, 0xFF00, 0xFFFF]),
+            Refusal::Checksum => {
+                reply.with_checksum = true;
+                reply.checksum_error = random.pick(&[1, 2, 0x80, 0xFF]);
+            }
+            Refusal::Range => reply.status = random.byte_within(13..=255),
+            _ => return None,
+        }
+        Some(reply)
+    }
+}

@@ -1,0 +1,484 @@
+//! The eighteen commands of document 01 ("Commands carried") as types, and how their data is read
+//! and written.
+
+use crate::fields::{within, Fields, OutOfRange};
+use crate::refusal::Refusal;
+use crate::settings::{
+    curtain_colour, point_bytes, word_bytes, ControlPoints, Pin, Point, Pwm, Uart, PINS, PWM_PORTS, UARTS,
+};
+
+impl From<OutOfRange> for Refusal {
+    fn from(_: OutOfRange) -> Self {
+        Refusal::Range
+    }
+}
+
+/// Bit 7 of the header.
+#[derive(Clone, Copy, Debug, PartialEq, Eq)]
+pub enum Direction {
+    Write,
+    Read,
+}
+
+impl Direction {
+    pub const BOTH: [Direction; 2] = [Direction::Write, Direction::Read];
+}
+
+/// The opcodes carried.
+#[derive(Clone, Copy, Debug, PartialEq, Eq)]
+#[repr(u8)]
+pub enum Opcode {
+    Display = 0x11,
+    LowLatency = 0x12,
+    Look = 0x13,
+    CurtainColour = 0x1A,
+    SplashImage = 0x1B,
+    Flip = 0x1C,
+    Freeze = 0x1D,
+    Gains = 0x2B,
+    Map = 0x34,
+    ControlPoints = 0x35,
+    Apply = 0x36,
+    SmoothTable = 0x38,
+    UpdateMode = 0x39,
+    Pin = 0x60,
+    PinLevel = 0x61,
+    Pwm = 0x65,
+    EepromLock = 0x6C,
+    Uart = 0x6D,
+}
+
+impl Opcode {
+    pub const ALL: [Opcode; 18] = [
+        Opcode::Display,
+        Opcode::LowLatency,
+        Opcode::Look,
+        Opcode::CurtainColour,
+        Opcode::SplashImage,
+        Opcode::Flip,
+        Opcode::Freeze,
+        Opcode::Gains,
+        Opcode::Map,
+        Opcode::ControlPoints,
+        Opcode::Apply,
+        Opcode::SmoothTable,
+        Opcode::UpdateMode,
+        Opcode::Pin,
+        Opcode::PinLevel,
+        Opcode::Pwm,
+        Opcode::EepromLock,
+        Opcode::Uart,
+    ];
+
+    pub fn number(self) -> u8 {
+        self as u8
+    }
+
+    /// The opcode of this number; none (refusal 7) if it isn't carried.
+    pub fn find(number: u16) -> Option<Opcode> {
+        Opcode::ALL.into_iter().find(|opcode| u16::from(opcode.number()) == number)
+    }
+
+    /// Whether a write needs a length field (refusal 8).
+    pub fn is_variable(self) -> bool {
+        matches!(self, Opcode::Gains | Opcode::Map | Opcode::ControlPoints | Opcode::SmoothTable)
+    }
+}
+
+/// The colours that a 2Bh write names.
+#[derive(Clone, Copy, Debug, PartialEq, Eq)]
+pub enum Target {
+    All,
+    One(Colour),
+}
+
+impl Target {
+    /// 0 all, 1-3 one colour.
+    fn from_byte(byte: u8) -> Result<Self, OutOfRange> {
+        match byte {
+            0 => Ok(Target::All),
+            _ => Colour::from_byte(byte).map(Target::One),
+        }
+    }
+
+    fn byte(self) -> u8 {
+        match self {
+            Target::All => 0,
+            Target::One(colour) => colour as u8,
+        }
+    }
+}
+
+/// 1 red, 2 green, 3 blue (house).
+#[derive(Clone, Copy, Debug, PartialEq, Eq)]
+#[repr(u8)]
+pub enum Colour {
+    Red = 1,
+    Green = 2,
+    Blue = 3,
+}
+
+impl Colour {
+    pub const ALL: [Colour; 3] = [Colour::Red, Colour::Green, Colour::Blue];
+
+    fn from_byte(byte: u8) -> Result<Self, OutOfRange> {
+        Colour::ALL.into_iter().find(|colour| *colour as u8 == byte).ok_or(OutOfRange)
+    }
+}
+
+/// What a write asks for, its values in range.
+#[derive(Clone, Debug, PartialEq, Eq)]
+pub enum Write {
+    /// 11h: display 0-4.
+    Display(u8),
+    /// 12h.
+    LowLatency(bool),
+    /// 13h: look, any 16-bit.
+    Look(u16),
+    /// 1Ah: colour 0, 2-8.
+    CurtainColour(u8),
+    /// 1Bh: any byte.
+    SplashImage(u8),
+    /// 1Ch: 0-3.
+    Flip(u8),
+    /// 1Dh.
+    Freeze(bool),
+    /// 2Bh: as many words, 0-8191, as the packet counts, uncompressed.
+    Gains { target: Target, start: u16, words: Vec<u16> },
+    /// 34h: one point or more.
+    Map { start: u16, points: Vec<Point> },
+    /// 35h.
+    ControlPoints(ControlPoints),
+    /// 36h.
+    Apply(bool),
+    /// 38h: columns and rows 3-5, then exactly columns × rows points.
+    SmoothTable { columns: u8, rows: u8, points: Vec<Point> },
+    /// 39h: only mode 0 is carried.
+    UpdateMode,
+    /// 60h: pin 0-87.
+    Pin { pin: u8, config: Pin },
+    /// 61h: pin 0-87.
+    PinLevel { pin: u8, level: bool },
+    /// 65h: ports 0-10 and 13.
+    Pwm { port: u8, config: Pwm },
+    /// 6Ch.
+    EepromLock(bool),
+    /// 6Dh: port 0-2.
+    Uart { port: u8, config: Uart },
+}
+
+impl Write {
+    /// A write's data as what it asks for: refusals 9, 10 and 11, in this order, with the
+    /// exceptions that document 01 makes under 35h, 38h and 2Bh.
+    pub fn parse(opcode: Opcode, data: &[u8]) -> Result<Self, Refusal> {
+        Ok(match opcode {
+            Opcode::Display => Write::Display(within(sized(data, 1)?.byte(), 0..=4)?),
+            Opcode::LowLatency => Write::LowLatency(sized(data, 1)?.flag()?),
+            Opcode::Look => Write::Look(sized(data, 2)?.word()),
+            Opcode::CurtainColour => Write::CurtainColour(curtain_colour(sized(data, 1)?.byte())?),
+            Opcode::SplashImage => Write::SplashImage(sized(data, 1)?.byte()),
+            Opcode::Flip => Write::Flip(within(sized(data, 1)?.byte(), 0..=3)?),
+            Opcode::Freeze => Write::Freeze(sized(data, 1)?.flag()?),
+            Opcode::Gains => return Write::parse_gains(data),
+            Opcode::Map => return Write::parse_map(data),
+            Opcode::ControlPoints => return Write::parse_control_points(data),
+            Opcode::Apply => Write::Apply(sized(data, 1)?.flag()?),
+            Opcode::SmoothTable => return Write::parse_smooth_table(data),
+            Opcode::UpdateMode => match sized(data, 1)?.byte() {
+                0 => Write::UpdateMode,
+                1 => return Err(Refusal::NotCarried),
+                _ => return Err(Refusal::Range),
+            },
+            Opcode::Pin => {
+                let mut fields = sized(data, 4)?;
+                Write::Pin { pin: pin(&mut fields)?, config: Pin::take(&mut fields)? }
+            }
+            Opcode::PinLevel => {
+                let mut fields = sized(data, 2)?;
+                Write::PinLevel { pin: pin(&mut fields)?, level: fields.flag()? }
+            }
+            Opcode::Pwm => {
+                let mut fields = sized(data, 7)?;
+                Write::Pwm { port: pwm_port(&mut fields)?, config: Pwm::take(&mut fields)? }
+            }
+            Opcode::EepromLock => Write::EepromLock(sized(data, 1)?.flag()?),
+            Opcode::Uart => {
+                let mut fields = sized(data, 11)?;
+                Write::Uart { port: uart_port(&mut fields)?, config: Uart::take(&mut fields)? }
+            }
+        })
+    }
+
+    /// 2Bh: compression, colour, count, start, words. Count 0 is refusal 10; flag 1 is refusal 11
+    /// before any word is judged.
+    fn parse_gains(data: &[u8]) -> Result<Self, Refusal> {
+        let (head, words) = data.split_at_checked(6).ok_or(Refusal::Size)?;
+        let mut fields = Fields::new(head);
+        let (compression, colour, count, start) =
+            (fields.byte(), fields.byte(), fields.word(), fields.word());
+        if words.len() != 2 * usize::from(count) {
+            return Err(Refusal::Size);
+        }
+        within(compression, 0..=1)?;
+        let target = Target::from_byte(colour)?;
+        within(count, 1..=u16::MAX)?;
+        if compression == 1 {
+            return Err(Refusal::NotCarried);
+        }
+        let words = Fields::new(words).all(Fields::word);
+        if words.iter().any(|word| *word > 8191) {
+            return Err(Refusal::Range);
+        }
+        Ok(Write::Gains { target, start, words })
+    }
+
+    /// 34h: start, then n ≥ 1 points of 4 bytes.
+    fn parse_map(data: &[u8]) -> Result<Self, Refusal> {
+        if data.len() < 6 || data.len() % 4 != 2 {
+            return Err(Refusal::Size);
+        }
+        let mut fields = Fields::new(data);
+        Ok(Write::Map { start: fields.word(), points: fields.all(Point::take) })
+    }
+
+    /// 35h: a write without its mode byte is refusal 9, a mode above 1 is refusal 10 whatever the
+    /// size.
+    fn parse_control_points(data: &[u8]) -> Result<Self, Refusal> {
+        let (mode, rest) = data.split_first().ok_or(Refusal::Size)?;
+        Ok(Write::ControlPoints(match mode {
+            0 => ControlPoints::take_even(&mut sized(rest, 4)?)?,
+            1 => ControlPoints::take_listed(&mut sized(rest, 188)?)?,
+            _ => return Err(Refusal::Range),
+        }))
+    }
+
+    /// 38h: a write without both its counts is refusal 9, columns or rows out of range are refusal
+    /// 10 whatever the size.
+    fn parse_smooth_table(data: &[u8]) -> Result<Self, Refusal> {
+        let (counts, points) = data.split_at_checked(2).ok_or(Refusal::Size)?;
+        let columns = within(counts[0], 3..=5)?;
+        let rows = within(counts[1], 3..=5)?;
+        let mut fields = sized(points, 4 * usize::from(columns) * usize::from(rows))?;
+        Ok(Write::SmoothTable { columns, rows, points: fields.all(Point::take) })
+    }
+
+    pub fn opcode(&self) -> Opcode {
+        match self {
+            Write::Display(_) => Opcode::Display,
+            Write::LowLatency(_) => Opcode::LowLatency,
+            Write::Look(_) => Opcode::Look,
+            Write::CurtainColour(_) => Opcode::CurtainColour,
+            Write::SplashImage(_) => Opcode::SplashImage,
+            Write::Flip(_) => Opcode::Flip,
+            Write::Freeze(_) => Opcode::Freeze,
+            Write::Gains { .. } => Opcode::Gains,
+            Write::Map { .. } => Opcode::Map,
+            Write::ControlPoints(_) => Opcode::ControlPoints,
+            Write::Apply(_) => Opcode::Apply,
+            Write::SmoothTable { .. } => Opcode::SmoothTable,
+            Write::UpdateMode => Opcode::UpdateMode,
+            Write::Pin { .. } => Opcode::Pin,
+            Write::PinLevel { .. } => Opcode::PinLevel,
+            Write::Pwm { .. } => Opcode::Pwm,
+            Write::EepromLock(_) => Opcode::EepromLock,
+            Write::Uart { .. } => Opcode::Uart,
+        }
+    }
+
+    /// The write data that asks for this.
+    pub fn data(&self) -> Vec<u8> {
+        match self {
+            Write::Display(value)
+            | Write::CurtainColour(value)
+            | Write::SplashImage(value)
+            | Write::Flip(value) => vec![*value],
+            Write::LowLatency(flag) | Write::Freeze(flag) | Write::Apply(flag) | Write::EepromLock(flag) => {
+                vec![u8::from(*flag)]
+            }
+            Write::Look(look) => look.to_le_bytes().to_vec(),
+            Write::Gains { target, start, words } => {
+                let head = word_bytes(&[words.len() as u16, *start]);
+                [&[0, target.byte()][..], &head, &word_bytes(words)].concat()
+            }
+            Write::Map { start, points } => [&start.to_le_bytes()[..], &point_bytes(points)].concat(),
+            Write::ControlPoints(written) => written.bytes(),
+            Write::SmoothTable { columns, rows, points } => {
+                [&[*columns, *rows][..], &point_bytes(points)].concat()
+            }
+            Write::UpdateMode => vec![0],
+            Write::Pin { pin, config } => [&[*pin][..], &config.bytes()].concat(),
+            Write::PinLevel { pin, level } => vec![*pin, u8::from(*level)],
+            Write::Pwm { port, config } => [&[*port][..], &config.bytes()].concat(),
+            Write::Uart { port, config } => [&[*port][..], &config.bytes()].concat(),
+        }
+    }
+}
+
+/// What a read asks for.
+#[derive(Clone, Copy, Debug, PartialEq, Eq)]
+pub enum Read {
+    Display,
+    LowLatency,
+    Look,
+    CurtainColour,
+    SplashImage,
+    Flip,
+    Freeze,
+    /// 2Bh (house): colour 1-3, count 1-254.
+    Gains {
+        colour: Colour,
+        start: u16,
+        count: u16,
+    },
+    /// 34h: count 1-127, of staged points.
+    Map {
+        start: u16,
+        count: u16,
+    },
+    ControlPoints,
+    Apply,
+    SmoothTable,
+    UpdateMode,
+    Pin(u8),
+    PinLevel(u8),
+    Pwm(u8),
+    EepromLock,
+    Uart(u8),
+}
+
+impl Read {
+    /// A read's data as what it asks for: refusals 9 and 10.
+    pub fn parse(opcode: Opcode, data: &[u8]) -> Result<Self, Refusal> {
+        let size = match opcode {
+            Opcode::Gains => 5,
+            Opcode::Map => 4,
+            Opcode::Pin | Opcode::PinLevel | Opcode::Pwm | Opcode::Uart => 1,
+            _ => 0,
+        };
+        let fields = &mut sized(data, size)?;
+        Ok(match opcode {
+            Opcode::Display => Read::Display,
+            Opcode::LowLatency => Read::LowLatency,
+            Opcode::Look => Read::Look,
+            Opcode::CurtainColour => Read::CurtainColour,
+            Opcode::SplashImage => Read::SplashImage,
+            Opcode::Flip => Read::Flip,
+            Opcode::Freeze => Read::Freeze,
+            Opcode::Gains => Read::Gains {
+                colour: Colour::from_byte(fields.byte())?,
+                start: fields.word(),
+                count: within(fields.word(), 1..=254)?,
+            },
+            Opcode::Map => Read::Map { start: fields.word(), count: within(fields.word(), 1..=127)? },
+            Opcode::ControlPoints => Read::ControlPoints,
+            Opcode::Apply => Read::Apply,
+            Opcode::SmoothTable => Read::SmoothTable,
+            Opcode::UpdateMode => Read::UpdateMode,
+            Opcode::Pin => Read::Pin(pin(fields)?),
+            Opcode::PinLevel => Read::PinLevel(pin(fields)?),
+            Opcode::Pwm => Read::Pwm(pwm_port(fields)?),
+            Opcode::EepromLock => Read::EepromLock,
+            Opcode::Uart => Read::Uart(uart_port(fields)?),
+        })
+    }
+
+    pub fn opcode(&self) -> Opcode {
+        match self {
+            Read::Display => Opcode::Display,
+            Read::LowLatency => Opcode::LowLatency,
+            Read::Look => Opcode::Look,
+            Read::CurtainColour => Opcode::CurtainColour,
+            Read::SplashImage => Opcode::SplashImage,
+            Read::Flip => Opcode::Flip,
+            Read::Freeze => Opcode::Freeze,
+            Read::Gains { .. } => Opcode::Gains,
+            Read::Map { .. } => Opcode::Map,
+            Read::ControlPoints => Opcode::ControlPoints,
+            Read::Apply => Opcode::Apply,
+            Read::SmoothTable => Opcode::SmoothTable,
+            Read::UpdateMode => Opcode::UpdateMode,
+            Read::Pin(_) => Opcode::Pin,
+            Read::PinLevel(_) => Opcode::PinLevel,
+            Read::Pwm(_) => Opcode::Pwm,
+            Read::EepromLock => Opcode::EepromLock,
+            Read::Uart(_) => Opcode::Uart,
+        }
+    }
+
+    /// The read data that asks for this.
+    pub fn data(&self) -> Vec<u8> {
+        match *self {
+            Read::Gains { colour, start, count } => {
+                [&[colour as u8][..], &word_bytes(&[start, count])].concat()
+            }
+            Read::Map { start, count } => word_bytes(&[start, count]),
+            Read::Pin(number) | Read::PinLevel(number) | Read::Pwm(number) | Read::Uart(number) => {
+                vec![number]
+            }
+            _ => Vec::new(),
+        }
+    }
+}
+
+/// A command: what reading ends in, apart from the options.
+#[derive(Clone, Debug, PartialEq, Eq)]
+pub enum Command {
+    Write(Write),
+    Read(Read),
+}
+
+impl Command {
+    /// Refusals 9, 10 and 11.
+    pub fn parse(direction: Direction, opcode: Opcode, data: &[u8]) -> Result<Self, Refusal> {
+        match direction {
+            Direction::Write => Write::parse(opcode, data).map(Command::Write),
+            Direction::Read => Read::parse(opcode, data).map(Command::Read),
+        }
+    }
+
+    pub fn direction(&self) -> Direction {
+        match self {
+            Command::Write(_) => Direction::Write,
+            Command::Read(_) => Direction::Read,
+        }
+    }
+
+    pub fn opcode(&self) -> Opcode {
+        match self {
+            Command::Write(write) => write.opcode(),
+            Command::Read(read) => read.opcode(),
+        }
+    }
+
+    pub fn data(&self) -> Vec<u8> {
+        match self {
+            Command::Write(write) => write.data(),
+            Command::Read(read) => read.data(),
+        }
+    }
+}
+
+/// The fields of data of exactly this size; any other size is refusal 9.
+fn sized(data: &[u8], size: usize) -> Result<Fields<'_>, Refusal> {
+    if data.len() == size {
+        Ok(Fields::new(data))
+    } else {
+        Err(Refusal::Size)
+    }
+}
+
+/// 60h and 61h: pin 0-87.
+fn pin(fields: &mut Fields) -> Result<u8, OutOfRange> {
+    within(fields.byte(), 0..=PINS as u8 - 1)
+}
+
+/// 65h: ports 0-10 and 13.
+fn pwm_port(fields: &mut Fields) -> Result<u8, OutOfRange> {
+    let port = fields.byte();
+    PWM_PORTS.contains(&port).then_some(port).ok_or(OutOfRange)
+}
+
+/// 6Dh: port 0-2.
+fn uart_port(fields: &mut Fields) -> Result<u8, OutOfRange> {
+    within(fields.byte(), 0..=UARTS as u8 - 1)
+}

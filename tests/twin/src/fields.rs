@@ -1,0 +1,67 @@
+//! Numbers in bytes, low byte first, and the checksum.
+
+use std::ops::RangeInclusive;
+
+/// The sum of the bytes, modulo 256 ("Packet": house rule for the one byte sent).
+pub fn checksum(bytes: &[u8]) -> u8 {
+    bytes.iter().fold(0, |sum, byte| sum.wrapping_add(*byte))
+}
+
+/// A value is out of range or reserved. In a packet this is refusal 10, in a setting refusal 1.
+#[derive(Clone, Copy, Debug, PartialEq, Eq)]
+pub struct OutOfRange;
+
+/// `value`, if it lies in `range`.
+pub fn within<T: PartialOrd>(value: T, range: RangeInclusive<T>) -> Result<T, OutOfRange> {
+    range.contains(&value).then_some(value).ok_or(OutOfRange)
+}
+
+/// Takes field after field from bytes whose number has been judged before.
+pub struct Fields<'a> {
+    rest: &'a [u8],
+}
+
+impl<'a> Fields<'a> {
+    pub fn new(bytes: &'a [u8]) -> Self {
+        Fields { rest: bytes }
+    }
+
+    fn take<const N: usize>(&mut self) -> [u8; N] {
+        let (field, rest) = self.rest.split_first_chunk().expect("the size was judged first");
+        self.rest = rest;
+        *field
+    }
+
+    pub fn byte(&mut self) -> u8 {
+        u8::from_le_bytes(self.take())
+    }
+
+    /// A 16-bit number.
+    pub fn word(&mut self) -> u16 {
+        u16::from_le_bytes(self.take())
+    }
+
+    /// A 32-bit number.
+    pub fn long(&mut self) -> u32 {
+        u32::from_le_bytes(self.take())
+    }
+
+    /// A byte that is 0 or 1.
+    pub fn flag(&mut self) -> Result<bool, OutOfRange> {
+        Ok(within(self.byte(), 0..=1)? == 1)
+    }
+
+    /// What `take` makes of each of the next `N` fields.
+    pub fn array<T, const N: usize>(&mut self, mut take: impl FnMut(&mut Self) -> T) -> [T; N] {
+        std::array::from_fn(|_| take(self))
+    }
+
+    /// What `take` makes of each field up to the end.
+    pub fn all<T>(&mut self, mut take: impl FnMut(&mut Self) -> T) -> Vec<T> {
+        let mut values = Vec::new();
+        while !self.rest.is_empty() {
+            values.push(take(self));
+        }
+        values
+    }
+}

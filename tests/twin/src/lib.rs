@@ -1,0 +1,21 @@
+//! A plain Rust twin of document 01, "Requirements of the front end and its rules".
+//!
+//! It is written from that paper as typed commands and settings, and takes no code, table or
+//! constant from the proved library. The programs in `compare/` hold the two against each other
+//! through the C entries.
+//!
+//! - [`command`]: the eighteen commands, their data sizes and ranges (refusals 9, 10 and 11);
+//! - [`packet`]: reading (refusals 2 to 11) and making;
+//! - [`reply`]: reply making and reading;
+//! - [`settings`]: the typed settings, their ranges and their values after reset;
+//! - [`state`]: one packet on settings and tables (refusal 12, effects, the reply).
+
+#[cfg(test)]
+mod bench_packets;
+pub mod command;
+pub mod fields;
+pub mod packet;
+pub mod refusal;
+pub mod reply;
+pub mod settings;
+pub mod state;
