@@ -12,10 +12,10 @@ use Rattle.settings.specs.Ranges.{pictureFields, deviceFields, right, shapeRigh
 use Rattle.settings.specs.Reset.{resetShape, resetBlock, resetMap, resetGains}
 use Rattle.controller.specs.State.{stopped}
 use Rattle.controller.specs.Commands.{writeGains, readGains, readPoints, shapeBytes, writeShape, readShape, applyBlock, applyLive}
-use Rattle.controller.specs.Commands.{writeSmooth, readSmooth, written, dataBack, runsPast}
+use Rattle.controller.specs.Commands.{writeSmooth, readSmooth, blockAfter, written, blockBack, dataBack, runsPast}
 use Rattle.controller.specs.Step.{numberOf, replyTo, step}
 use Rattle.bench_table.specs.Table.{rows, allHold}
 
 pub rows-hold : T (allHold rows)
-unfolding total checksum over fault wordsAt riseFrom rise inGains commandOf judgement pointsSizeWrong gainsSizeWrong controlSizeWrong smoothSizeWrong sizeWrong gainsFault listsFault controlFault smoothFault valueFault replyBytes placeOf pictureFields deviceFields right shapeRight settingsRight resetShape resetBlock resetMap resetGains stopped writeGains readGains readPoints shapeBytes writeShape readShape applyBlock applyLive writeSmooth readSmooth written dataBack runsPast numberOf replyTo step
+unfolding total checksum over fault wordsAt riseFrom rise inGains commandOf judgement pointsSizeWrong gainsSizeWrong controlSizeWrong smoothSizeWrong sizeWrong gainsFault listsFault controlFault smoothFault valueFault replyBytes placeOf pictureFields deviceFields right shapeRight settingsRight resetShape resetBlock resetMap resetGains stopped writeGains readGains readPoints shapeBytes writeShape readShape applyBlock applyLive writeSmooth readSmooth blockAfter written blockBack dataBack runsPast numberOf replyTo step
 rows-hold = tt

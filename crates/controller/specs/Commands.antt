@@ -84,7 +84,7 @@ readSmooth block =
 
 -- ---- The commands together
 
-abbrev pub blockAfter : ℕ → List ℕ → List ℕ → List ℕ
+unfoldable pub blockAfter : ℕ → List ℕ → List ℕ → List ℕ
 blockAfter op d block =
     cond (eqb op 0x2B) block
     (cond (eqb op 0x34) block
@@ -101,12 +101,14 @@ written op d s =
       ; gains = cond (eqb op 0x2B) (writeGains d (s .gains)) (s .gains)
       }
 
--- The data of an accepted read's reply. 36h returns enable, as the fixed commands return what they store.
+-- The data of an accepted read's reply: settings of the block. 36h returns enable, as the fixed commands return what they store.
+unfoldable pub blockBack : ℕ → List ℕ → List ℕ → List ℕ
+blockBack op d block = cond (eqb op 0x35) (readShape block) (cond (eqb op 0x38) (readSmooth block) (returned op d block))
+
+-- The data of any accepted read's reply.
 unfoldable pub dataBack : ℕ → List ℕ → State → List ℕ
 dataBack op d s =
-    cond (eqb op 0x2B) (readGains d (s .gains))
-    (cond (eqb op 0x34) (readPoints d (s .staged))
-    (cond (eqb op 0x35) (readShape (s .block)) (cond (eqb op 0x38) (readSmooth (s .block)) (returned op d (s .block)))))
+    cond (eqb op 0x2B) (readGains d (s .gains)) (cond (eqb op 0x34) (readPoints d (s .staged)) (blockBack op d (s .block)))
 
 -- ---- Refusal 12: "a start and count run past their table". 34h: "Both need start + count ≤ columns × rows as staged." 2Bh: "start +
 -- count ≤ 2,016".

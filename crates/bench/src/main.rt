@@ -1,0 +1,81 @@
+// Reads each bench packet of document 01, says what it found, and makes the packet again from its reading.
+use packet::Reading;
+
+fn main() {
+    show(b"");
+    show(b"\x24\x11");
+    show(b"\x04\x11\x01");
+    show(b"\x84\x11");
+    show(b"\x44\x11\x01");
+    show(b"\x0C\x11\x00\x01");
+    show(b"\x24\x11\x01\x36");
+    show(b"\x24\x11\x01\x37");
+    show(b"\x03\x11\x01");
+    show(b"\x14\x11\x02\x00\x01");
+    show(b"\x04\x11\x05");
+    show(b"\x04\x1A\x01");
+    show(b"\x04\x1A\x02");
+    show(b"\x04\x39\x01");
+    show(b"\x04\x39\x02");
+    show(b"\x04\x34\x00\x00\x08\x00\x10\x00");
+    show(b"\x14\x34\x02\x00\x00\x00");
+    show(b"\x14\x34\x06\x00\xBF\x07\x01\x00\x02\x00");
+    show(b"\x14\x2B\x08\x00\x00\x01\x01\x00\xDF\x07\x00\x14");
+}
+
+// One packet: its bytes, what reading gives, and the bytes made again.
+fn show(bytes: &[u8]) {
+    io::write_all(1, b"packet");
+    print_bytes(bytes, bytes.len());
+    let r = packet::read(bytes);
+    let Reading::Command { opcode, options, at, size } = r else {
+        print_number(b"\n  refused ", number_of(r));
+        io::write_all(1, b"\n");
+        return;
+    };
+    print_byte(b"\n  opcode ", opcode);
+    print_byte(b", options ", options);
+    print_number(b", data at ", at as u64);
+    print_number(b", size ", size as u64);
+    let mut buffer = [0u8; 512];
+    let made = packet::make(opcode as u16, options, &bytes[at..at + size], &mut buffer);
+    print_number(b"\n  made again, status ", made.status as u64);
+    io::write_all(1, b":");
+    print_bytes(&buffer, made.size);
+    io::write_all(1, b"\n");
+}
+
+fn number_of(r: Reading) -> u64 {
+    match r {
+        Reading::Refused(why) => why.number as u64,
+        Reading::Command { opcode: _, options: _, at: _, size: _ } => 0,
+    }
+}
+
+fn print_number(text: &[u8], n: u64) {
+    io::write_all(1, text);
+    io::print_decimal(1, n);
+}
+
+fn print_byte(text: &[u8], b: u8) {
+    io::write_all(1, text);
+    io::print_hex(1, b as u64, 2);
+    io::write_all(1, b"h");
+}
+
+// The first n bytes, in hexadecimal.
+fn print_bytes(s: &[u8], n: usize) {
+    let mut i = 0;
+    while i < n {
+        if s.len() <= i {
+            return;
+        }
+        print_one(s[i]);
+        i += 1;
+    }
+}
+
+fn print_one(b: u8) {
+    io::write_all(1, b" ");
+    io::print_hex(1, b as u64, 2);
+}
