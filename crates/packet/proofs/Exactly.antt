@@ -17,17 +17,9 @@ use Rattle.opcode.specs.Allowed.{Allowed}
 use Rattle.opcode.proofs.Accepts.{accepts}
 use Rattle.opcode.proofs.Accepts.Tests.{silent-first, first-silent}
 use Rattle.packet.specs.Frame.{headerOf, opcodeOf, dataOf, dataSize, place}
-use Rattle.packet.specs.Reading.{refusals, answered, reading}
+use Rattle.packet.specs.Reading.{refusals, reading}
 use Rattle.packet.specs.Sound.{Taken}
-
--- The number that reading gives is the first of the refusals.
-pub number-is : (p : List ℕ) → reading p .number ≡ first (refusals p)
-unfolding reading
-number-is p = go (first (refusals p)) (eqb (first (refusals p)) 0) refl
-  where
-    go : (n : ℕ) (b : Bool) → eqb n 0 ≡ b → answered n p .number ≡ n
-    go n true e = rw e (sym (eqb-true n 0 e))
-    go n false e = rw e
+use Rattle.packet.proofs.Frames.{reading-number}
 
 -- A test that holds only where an option is set and two numbers differ.
 option-true : (a b : Bool) → (a && not b) ≡ false → a ≡ true → b ≡ true
@@ -50,7 +42,7 @@ bytes-of-data p h k = below-take (dataSize p) (drop (place (headerOf p)) p) (λ 
 
 pub exactly : (p : List ℕ) → ((k : ℕ) → getD p k 0 < 256) → (reading p .number ≡ 0) ↔ Taken p
 unfolding judgement
-exactly p h = (λ n. to (sym (number-is p) ∙ n), λ t. number-is p ∙ from t)
+exactly p h = (λ n. to (sym (reading-number p) ∙ n), λ t. reading-number p ∙ from t)
   where
     rest : List (ℕ × Bool)
     rest = judgement (opcodeOf p) (optionsIn (headerOf p)) (dataOf p)

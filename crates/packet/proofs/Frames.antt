@@ -1,5 +1,5 @@
 -- Frames and what stands in them. The refusals of a command, which follow those of its frame, may be any list.
-use Prim.Native.Nat.{ℕ, zero, suc, _+_, _-_, _≤_, _<_}
+use Prim.Native.Nat.{ℕ, _+_, _-_, _≤_}
 use mathlib.Core.Path.{_≡_, refl, sym, ap, _∙_}
 use mathlib.Core.Bool.{Bool, true, false, cond, not, _&&_}
 use mathlib.Core.List.{List, [], _∷_, _++_}
@@ -11,8 +11,7 @@ use Rattle.wire.specs.First.{first}
 use Rattle.opcode.specs.Options.{optionsIn}
 use Rattle.opcode.specs.Judgement.{judgement}
 use Rattle.packet.specs.Frame.{headerOf, opcodeOf, place, fields, dataSize, dataOf}
-use Rattle.packet.specs.Reading.{Answer, tooShort, tooLong, lengthDiffers, checksumDiffers, elsewhere, frameRefusals, refusals, refusedBy, answered, reading, framed, frameAnswer}
-use Rattle.packet.specs.declared.Frame.the-variants.{Sound, Broken}
+use Rattle.packet.specs.Reading.{Answer, tooShort, tooLong, lengthDiffers, checksumDiffers, elsewhere, frameRefusals, refusals, refusedBy, answered, reading, framed}
 
 -- What stands in a packet.
 abbrev pub standing : List ℕ → Answer
@@ -39,7 +38,7 @@ module _ (a b c d e : Bool) (ts : List (ℕ × Bool)) where
   pub framed-sound : first (rows a b c d e) ≡ 0 → first (rows a b c d e ++ ts) ≡ first ts
   framed-sound h = framed-first a b c d e ts ∙ rw h
 
--- No number means that no test held.
+-- No number means that no test held, and none of what follows.
 pub record Passed (a b c d e : Bool) : Type 0 where
   pub no-2 : a ≡ false
   pub no-3 : b ≡ false
@@ -47,13 +46,13 @@ pub record Passed (a b c d e : Bool) : Type 0 where
   pub no-5 : d ≡ false
   pub no-6 : e ≡ false
 
-pub passed : (a b c d e : Bool) → first (rows a b c d e) ≡ 0 → Passed a b c d e
-passed true b c d e h = absurd (omega arith)
-passed false true c d e h = absurd (omega arith)
-passed false false true d e h = absurd (omega arith)
-passed false false false true e h = absurd (omega arith)
-passed false false false false true h = absurd (omega arith)
-passed false false false false false h = record { no-2 = refl; no-3 = refl; no-4 = refl; no-5 = refl; no-6 = refl }
+pub none-of : (a b c d e : Bool) (ts : List (ℕ × Bool)) → first (rows a b c d e ++ ts) ≡ 0 → Passed a b c d e × (first ts ≡ 0)
+none-of true b c d e ts h = absurd (omega arith)
+none-of false true c d e ts h = absurd (omega arith)
+none-of false false true d e ts h = absurd (omega arith)
+none-of false false false true e ts h = absurd (omega arith)
+none-of false false false false true ts h = absurd (omega arith)
+none-of false false false false false ts h = (record { no-2 = refl; no-3 = refl; no-4 = refl; no-5 = refl; no-6 = refl }, h)
 
 -- The tests of a frame, one by one.
 pub framed-by : (p : List ℕ) {a b c d e : Bool} → tooShort p ≡ a → tooLong p ≡ b → lengthDiffers p ≡ c → checksumDiffers p ≡ d
@@ -80,6 +79,20 @@ broken-some : (b : Bool) (n m : ℕ) (p : List ℕ) → refusedBy m ≡ cond b (
 broken-some true n m p h = let z = ap (λ (a : Answer). a .place) h in absurd (omega arith)
 broken-some false n m p h = refl
 
+-- The number answered is the number found.
+number-by : (b : Bool) (n : ℕ) (p : List ℕ) → eqb n 0 ≡ b → cond b (standing p) (refusedBy n) .number ≡ n
+number-by true n p e = sym (eqb-true n 0 e)
+number-by false n p e = refl
+
+pub reading-number : (p : List ℕ) → reading p .number ≡ first (refusals p)
+unfolding reading
+reading-number p = number-by (eqb (first (refusals p)) 0) (first (refusals p)) p refl
+
+-- A packet that nothing is refused of.
+pub accepted : (p : List ℕ) → first (refusals p) ≡ 0 → reading p ≡ standing p
+unfolding reading
+accepted p e = ap (λ (n : ℕ). answered n p) e
+
 -- A broken frame's refusal is that of the packet.
 pub broken-read : (p : List ℕ) (n : ℕ) → refusedBy n ≡ framed p → refusedBy n ≡ reading p
 unfolding framed reading
@@ -103,8 +116,8 @@ unfolding framed
 stands p op o at size h =
     let zero-number = sound-zero (eqb (first (frameRefusals p)) 0) (first (frameRefusals p)) p refl h in
     let same : record { number = 0; opcode = op; options = o; place = at; size = size } ≡ standing p =
-        h ∙ ap (λ (n : ℕ). answered n p) zero-number in
-    let tests = passed (tooShort p) (tooLong p) (lengthDiffers p) (checksumDiffers p) (elsewhere p) zero-number in
+    h ∙ ap (λ (n : ℕ). answered n p) zero-number in
+    let tests = none-of (tooShort p) (tooLong p) (lengthDiffers p) (checksumDiffers p) (elsewhere p) [] zero-number .0 in
     record {
       none = zero-number;
       same-opcode = ap (λ (a : Answer). a .opcode) same;
@@ -116,7 +129,7 @@ stands p op o at size h =
     }
 
 -- A sound frame's command is judged, and answered with what stands in the frame.
-alike : (J : ℕ → ℕ → List ℕ → ℕ) {op op′ o o′ : ℕ} {d d′ : List ℕ} → op ≡ op′ → o ≡ o′ → d ≡ d′ → J op o d ≡ J op′ o′ d′
+pub alike : (J : ℕ → ℕ → List ℕ → ℕ) {op op′ o o′ : ℕ} {d d′ : List ℕ} → op ≡ op′ → o ≡ o′ → d ≡ d′ → J op o d ≡ J op′ o′ d′
 alike J e f g = rw (e, f, g)
 
 pub judged-read : (p : List ℕ) (op o at size n : ℕ) → record { number = 0; opcode = op; options = o; place = at; size = size } ≡ framed p
@@ -128,6 +141,6 @@ judged-read p op o at size n h e =
     let long : at + size - at ≡ dataSize p = omega (arith, s .same-size) in
     let there : take (at + size - at) (drop at p) ≡ dataOf p = rw (long, s .same-place) in
     let number : n ≡ first (refusals p) =
-        e ∙ alike (λ (op o : ℕ) (d : List ℕ). first (judgement op o d)) (s .same-opcode) (s .same-options) there
-        ∙ sym (framed-sound (tooShort p) (tooLong p) (lengthDiffers p) (checksumDiffers p) (elsewhere p) (judgement (opcodeOf p) (optionsIn (headerOf p)) (dataOf p)) (s .none)) in
+    e ∙ alike (λ (op o : ℕ) (d : List ℕ). first (judgement op o d)) (s .same-opcode) (s .same-options) there
+    ∙ sym (framed-sound (tooShort p) (tooLong p) (lengthDiffers p) (checksumDiffers p) (elsewhere p) (judgement (opcodeOf p) (optionsIn (headerOf p)) (dataOf p)) (s .none)) in
     ap (λ (a : Answer). cond (eqb n 0) a (refusedBy n)) (h ∙ ap (λ (n : ℕ). answered n p) (s .none)) ∙ ap (λ (n : ℕ). answered n p) number

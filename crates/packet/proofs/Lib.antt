@@ -5,3 +5,5 @@ pub mod Makes
 pub mod Frames
 pub mod Within
 pub mod Exactly
+pub mod MadeReads
+pub mod MadeAgain

@@ -1,16 +1,16 @@
 -- What making answers, by its first test that holds. The refusals of the command may be any list.
 use Prim.Native.Nat.{ℕ, _+_, _≤_, _<_}
 use mathlib.Core.Path.{_≡_, refl, sym, ap, _∙_}
-use mathlib.Core.Bool.{Bool, true, false}
+use mathlib.Core.Bool.{Bool, true, false, cond}
 use mathlib.Core.List.{List, _∷_}
-use borrow.Author.Tests.{lt-ltb, le-ltb, ne-eqb}
+use borrow.Author.Tests.{lt-ltb, le-ltb, ne-eqb, eqb-true}
 use lib.ListN.{length}
-use lib.Dec.{ltb}
+use lib.Dec.{eqb, ltb}
 use Rattle.wire.specs.First.{first}
 use Rattle.opcode.specs.Options.{optionsIn}
 use Rattle.opcode.specs.Judgement.{judgement}
 use Rattle.packet.specs.Frame.{fields}
-use Rattle.packet.specs.Making.{makeRefusals, madeBy, made}
+use Rattle.packet.specs.Making.{Made, makeRefusals, madeBy, made}
 
 -- The first number of making's list.
 small : {a : Bool} (b : Bool) (ts : List (ℕ × Bool)) → a ≡ true → first ((1, a) ∷ (3, b) ∷ ts) ≡ 1
@@ -21,6 +21,14 @@ large ts e f = rw (e, f)
 
 fits : {a b : Bool} (ts : List (ℕ × Bool)) → a ≡ false → b ≡ false → first ((1, a) ∷ (3, b) ∷ ts) ≡ first ts
 fits ts e f = rw (e, f)
+
+-- The status answered is the number found.
+status-by : (b : Bool) (n : ℕ) (x y : Made) → eqb n 0 ≡ b → x .status ≡ 0 → y .status ≡ n → cond b x y .status ≡ n
+status-by true n x y e h i = h ∙ sym (eqb-true n 0 e)
+status-by false n x y e h i = i
+
+pub made-status : (n op o : ℕ) (d buffer : List ℕ) → madeBy n op o d buffer .status ≡ n
+made-status n op o d buffer = status-by (eqb n 0) n _ _ refl refl refl
 
 module _ (op options : ℕ) (d buffer : List ℕ) where
   pub made-by : (n : ℕ) → first (makeRefusals op (optionsIn options) d (length buffer)) ≡ n
@@ -47,3 +55,9 @@ module _ (op options : ℕ) (d buffer : List ℕ) where
       pub made-refused : (n : ℕ) → first (judgement op (optionsIn options) d) ≡ n → (n ≡ 0 → ⊥)
           → made op options d buffer ≡ record { status = n; size = 0; buffer = buffer }
       made-refused n e h = made-judged n e ∙ rw (ne-eqb n 0 h)
+
+-- A packet that nothing is refused of, from options that have no other bits.
+pub made-whole : (op o : ℕ) (d buffer : List ℕ) → optionsIn o ≡ o → 512 ≤ length buffer → fields o + length d ≤ 512 → first (judgement op o d) ≡ 0
+    → made op o d buffer ≡ madeBy 0 op o d buffer
+made-whole op o d buffer whole room fit none =
+    rw whole at (made-judged op o d buffer room (rw whole fit) 0 (ap (λ (o : ℕ). first (judgement op o d)) whole ∙ none))

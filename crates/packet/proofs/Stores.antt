@@ -1,22 +1,21 @@
 -- Runs of stores, one behind the other, are one run; a run from the start of a buffer writes over it. So the stores of a packet's
 -- parts put the packet over the buffer.
 use Prim.Native.Nat.{ℕ, zero, suc, _+_, _*_, _≤_, _<_}
-use mathlib.Core.Path.{_≡_, refl, sym, ap, _∙_}
-use mathlib.Core.Bool.{true, false}
+use mathlib.Core.Path.{_≡_, refl, sym, _∙_}
 use mathlib.Core.List.{List, [], _∷_, _++_}
 use native.Mathlib.Omega.{arith}
-use lib.ListN.{length, take, drop, set, length-append}
-use lib.Seq.{sets, sets-eq, paste, take-length, take-append-seam}
+use lib.ListN.{length, take, length-append}
+use lib.Seq.{sets, sets-eq, paste, take-length}
 use Rattle.wire.specs.Numbers.{wordBytes}
 use Rattle.wire.specs.Checksum.{checksum}
 use Rattle.wire.specs.Buffers.{over}
+use Rattle.wire.proofs.Laws.{sets-append, take-over}
 use Rattle.opcode.specs.Options.{twoByte, hasLength, hasSum}
 use Rattle.packet.specs.Frame.{place, fields}
 use Rattle.packet.specs.Making.{present, headBytes, packetOf}
 
 pub sets-sets : (l : List ℕ) (i j : ℕ) (a b : List ℕ) → j ≡ i + length a → sets (sets l i a) j b ≡ sets l i (a ++ b)
-sets-sets l i j [] b e = let same : j ≡ i = omega arith in rw same
-sets-sets l i j (x ∷ a) b e = sets-sets (set l i x) (suc i) j a b (omega arith)
+sets-sets l i j a b e = rw e (sets-append l i a b)
 
 pub paste-sets : (l : List ℕ) (at : ℕ) (s : List ℕ) → at + length s ≤ length l → paste l at s (length s) ≡ sets l at s
 paste-sets l at s h = rw (take-length s) (sym (sets-eq s l at h))
@@ -26,11 +25,6 @@ unfolding over
 sets-over s l h =
     let same : 0 + length s ≡ length s = omega arith in
     rw same at (sets-eq s l 0 (omega arith))
-
--- Bytes written over a buffer's start are its first ones.
-pub take-over : (s l : List ℕ) → take (length s) (over s l) ≡ s
-unfolding over
-take-over s l = take-append-seam s (drop (length s) l)
 
 -- A store behind a run from the start.
 pub stored : (l a b : List ℕ) {m n : List ℕ} {j : ℕ} → j ≡ length a → m ≡ sets l 0 a → n ≡ sets m j b → n ≡ sets l 0 (a ++ b)
@@ -74,9 +68,9 @@ module _ (op o : ℕ) (d l : List ℕ) (room : fields o + length d ≤ length l)
       let two : b₂ ≡ sets l 0 ((4 + o) ∷ op ∷ []) = stored l ((4 + o) ∷ []) (op ∷ []) refl e₁ e₂ in
       let three : b₃ ≡ sets l 0 ((4 + o) ∷ op ∷ high) = stored l ((4 + o) ∷ op ∷ []) high refl two e₃ in
       let head : b₄ ≡ sets l 0 (headBytes op o (length d)) =
-          stored l ((4 + o) ∷ op ∷ high) size (omega (arith, length-present (twoByte o) (0 ∷ []) (omega arith))) three e₄ in
+      stored l ((4 + o) ∷ op ∷ high) size (omega (arith, length-present (twoByte o) (0 ∷ []) (omega arith))) three e₄ in
       let front : b₅ ≡ sets l 0 s =
-          stored l (headBytes op o (length d)) d (omega (arith, length-head op o (length d))) head (e₅ ∙ paste-sets b₄ from d (omega arith)) in
+      stored l (headBytes op o (length d)) d (omega (arith, length-head op o (length d))) head (e₅ ∙ paste-sets b₄ from d (omega arith)) in
       let long : end ≡ length s = omega (arith, length-front op o d) in
       let first : take end b₅ ≡ s = rw (front, long, sets-over s l (omega arith)) (take-over s l) in
       let whole : b₆ ≡ sets l 0 (packetOf op o d) = stored l s (present (hasSum o) (checksum s ∷ [])) long front (rw first at e₆) in

@@ -2,7 +2,7 @@
 use Prim.Native.Nat.{ℕ, _+_, _-_, _*_}
 use mathlib.Core.List.{List}
 use lib.ListN.{length, take, drop}
-use Rattle.wire.specs.Numbers.{byteAt, wordAt}
+use Rattle.wire.specs.Numbers.{byteAt}
 use Rattle.opcode.specs.Options.{twoByte, hasLength, hasSum}
 
 -- "Header byte .. Then the opcode (1 or 2 bytes), length (0 or 2), data, checksum (0 or 1)."

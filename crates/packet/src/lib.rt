@@ -110,14 +110,25 @@ pub fn read(packet: &[u8]) -> Reading
     ensures { λ r. ⌜ answer r ≡ reading (now (packet .entry)) ⌝ }
 {
     let frame = frame_of(packet);
-    let Frame::Sound { opcode, options, at, size } = frame else {
+    let Frame::Sound {
+        opcode,
+        options,
+        at,
+        size,
+    } = frame
+    else {
         return refused(frame);
     };
     let why = opcode::judge(opcode, options as usize, &packet[at..at + size]);
     if why.number != 0 {
         return Reading::Refused(why);
     }
-    Reading::Command { opcode: opcode as u8, options, at, size }
+    Reading::Command {
+        opcode: opcode as u8,
+        options,
+        at,
+        size,
+    }
 }
 
 // The refusal of a frame, as a reading.
@@ -126,7 +137,12 @@ fn refused(frame: Frame) -> Reading
 {
     match frame {
         Frame::Broken(why) => Reading::Refused(why),
-        Frame::Sound { opcode: _, options: _, at: _, size: _ } => Reading::Refused(Refusal { number: 0 }),
+        Frame::Sound {
+            opcode: _,
+            options: _,
+            at: _,
+            size: _,
+        } => Reading::Refused(Refusal { number: 0 }),
     }
 }
 
@@ -171,14 +187,13 @@ fn frame_of(packet: &[u8]) -> Frame
 
 // Whether the last byte differs from the checksum of those before it, where the header announces one.
 fn sum_differs(packet: &[u8], header: usize) -> bool
-    requires { ⌜ (header ≡ byteAt (now packet) 0) × (0 < length (now packet)) ⌝ }
+    requires { ⌜ (header ≡ byteAt (now packet) 0) × (1 < length (now packet)) ⌝ }
     ensures { λ r. ⌜ r ≡ checksumDiffers (now (packet .entry)) ⌝ }
 {
     if header / 32 % 2 == 0 {
         return false;
     }
-    let last = packet.len() - 1;
-    wire::byte(packet, last) != wire::checksum(packet, last)
+    wire::byte(packet, packet.len() - 1) != wire::checksum(packet, packet.len() - 1)
 }
 
 // What making answers: a status, document 01's number or 0, and the packet's size, 0 if refused.
@@ -202,7 +217,10 @@ pub fn make(opcode: u16, options: u8, data: &[u8], buffer: &mut [u8]) -> Packed
     }
     let why = opcode::judge(opcode as usize, o, data);
     if why.number != 0 {
-        return Packed { status: why.number, size: 0 };
+        return Packed {
+            status: why.number,
+            size: 0,
+        };
     }
     let size = write_packet(buffer, opcode as usize, o, data);
     Packed { status: 0, size }

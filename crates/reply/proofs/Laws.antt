@@ -12,6 +12,7 @@ use borrow.Rule.Slice.PartMut.{midOf, putMid}
 use Rattle.wire.specs.Numbers.{wordBytes}
 use Rattle.wire.specs.Checksum.{checksum}
 use Rattle.wire.specs.Buffers.{over}
+use Rattle.wire.proofs.Laws.{take-over}
 use Rattle.reply.specs.Reply.{replyBytes}
 use Rattle.reply.specs.Reading.{sumSize}
 
@@ -20,11 +21,7 @@ unfolding replyBytes
 length-reply true status d = rw length-append (omega arith)
 length-reply false status d = rw (append-nil d) (omega arith)
 
--- The bytes written over a buffer's start are its first ones, and one more goes behind them.
-pub take-over : (s buffer : List ℕ) → take (length s) (over s buffer) ≡ s
-unfolding over
-take-over s buffer = take-append-seam s (drop (length s) buffer)
-
+-- One byte more goes behind those written over a buffer's start.
 pub over-more : (s buffer : List ℕ) (v : ℕ) → length s < length buffer → set (over s buffer) (length s) v ≡ over (s ++ (v ∷ [])) buffer
 unfolding over
 over-more s buffer v h =

@@ -6,10 +6,11 @@ use mathlib.Core.List.{List, [], _∷_, _++_}
 use native.Mathlib.Nat.{add-zero}
 use native.Mathlib.Numerals.{add-one}
 use native.Mathlib.Omega.{arith}
-use lib.ListN.{length, take, getD, set, length-set, List·getD-eq-default}
-use lib.Seq.{take-suc, sets, paste, paste-zero, paste-suc}
+use lib.ListN.{length, take, drop, getD, set, length-set, List·getD-eq-default}
+use lib.Seq.{take-append-seam, take-suc, sets, paste, paste-zero, paste-suc}
 use Rattle.wire.specs.Numbers.{byteAt, wordAt}
 use Rattle.wire.specs.Checksum.{total, checksum}
+use Rattle.wire.specs.Buffers.{over}
 
 -- Past the end stands 0.
 pub byte-past : (s : List ℕ) (i : ℕ) → length s ≤ i → byteAt s i ≡ 0
@@ -45,6 +46,11 @@ checksum-turn s i h = rw total-turn (omega arith)
 pub sets-append : (l : List ℕ) (i : ℕ) (s t : List ℕ) → sets (sets l i s) (i + length s) t ≡ sets l i (s ++ t)
 sets-append l i [] t = rw (add-zero i)
 sets-append l i (x ∷ s) t = let e : i + suc (length s) ≡ suc i + length s = omega arith in rw e (sets-append (set l i x) (suc i) s t)
+
+-- Bytes written over a buffer's start are its first ones.
+pub take-over : (s buffer : List ℕ) → take (length s) (over s buffer) ≡ s
+unfolding over
+take-over s buffer = take-append-seam s (drop (length s) buffer)
 
 -- The first i of n elements of src stand in dst from a place on: what a loop that copies them one by one keeps.
 pub record Copying (dst₀ : List ℕ) (at : ℕ) (src : List ℕ) (n : ℕ) (dst : List ℕ) (i : ℕ) : Type 0 where

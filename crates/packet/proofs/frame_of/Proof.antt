@@ -1,29 +1,27 @@
 -- Each return: the tests before it failed and its own held, so the list of refusals gives its number; or all failed.
+use Prim.Native.Nat.{_-_}
 use mathlib.Core.Path.{_≡_, refl, sym, ap, _∙_}
 use mathlib.Core.Bool.{Bool, true, false, not}
 use native.Mathlib.Omega.{arith}
+use borrow.Author.Needs.{needs}
 use borrow.Author.Tests.{lt-ltb, le-ltb, eq-eqb, ne-eqb}
+use lib.ListN.{length}
 use lib.Dec.{eqb}
 use Rattle.wire.specs.Numbers.{wordAt}
 use Rattle.opcode.specs.Options.{hasLength}
-use Rattle.packet.specs.Frame.{headerOf, lengthPlace, dataSize}
+use Rattle.packet.specs.Frame.{headerOf, lengthPlace, fields, dataSize}
 use Rattle.packet.specs.Reading.{tooShort, tooLong, lengthDiffers, checksumDiffers}
 use Rattle.packet.proofs.Frames.{framed-by, stand-in, standing-as}
-use borrow.Author.Needs.{needs}
 use Rattle.packet.proofs.frame_of.Statement.{statement}
 use Rattle.packet.proofs.frame_of.Tie as tie
-use Rattle.packet.proofs.frame_of.Reads as reads
-use Rattle.packet.proofs.frame_of.Lts as lts
-use Rattle.packet.proofs.Cursor.header.Reads as header-reads
-use Rattle.packet.proofs.Cursor.length.Reads as length-reads
-use Rattle.packet.proofs.Cursor.new.Reads as new-reads
-use Rattle.packet.proofs.Cursor.opcode.Reads as opcode-reads
-use Rattle.packet.proofs.broken.Reads as broken-reads
-use Rattle.packet.proofs.sum_differs.Reads as sum-differs-reads
 
--- What the cursor's first step took, and where it stands then.
+-- What the cursor's first step took, and the number of data bytes that the code computes from it.
 is-header : (c : tie.After-header) → c .header .result .value ≡ headerOf (c .before .before .before .args .packet .now)
 is-header c = c .header .ensures .0 ∙ rw (c .before .new .ensures)
+
+is-size : (c : tie.After-header)
+    → length (c .before .before .before .args .packet .now) - fields (c .header .result .value) ≡ dataSize (c .before .before .before .args .packet .now)
+is-size c = rw (is-header c)
 
 -- The tests that failed, one by one.
 no-2 : (c : tie.Else1) → tooShort (c .before .before .before .before .args .packet .now) ≡ false
@@ -49,7 +47,7 @@ sized c b e =
 no-4 : (c : tie.Else3) → lengthDiffers (c .before .before .before .before .before .before .before .before .before .args .packet .now) ≡ false
 no-4 c =
     let taken = c .before .before in
-    sized taken true (eq-eqb _ _ (rw (is-header (taken .before .before .before .before)) at (c .if3 .left)))
+    sized taken true (eq-eqb _ _ (c .if3 .left ∙ is-size (taken .before .before .before .before)))
 
 no-5 : (c : tie.Else4) → checksumDiffers (c .before .before .before .before .before .before .before .before .before .before .before .args .packet .now) ≡ false
 no-5 c = sym (c .before .sum-differs .ensures) ∙ c .if4 .left
@@ -104,7 +102,7 @@ returns-3 c =
     let at-3 = taken .before .before in
     let start = at-3 .before .before in
     c .broken3 .ensures
-    ∙ sym (framed-by _ (no-2 (at-3 .before)) (no-3 at-3) (sized taken false (ne-eqb _ _ (rw (is-header start) at (c .before .if3 .taken)))) refl refl)
+    ∙ sym (framed-by _ (no-2 (at-3 .before)) (no-3 at-3) (sized taken false (ne-eqb _ _ (λ e. c .before .if3 .taken (e ∙ sym (is-size start))))) refl refl)
 
 sum-differs-requires : tie.Need-sum-differs-requires
 sum-differs-requires c κs =
@@ -148,7 +146,8 @@ returns-6 c =
     let start = at-3 .before .before in
     let p = start .before .before .before .args .packet .now in
     let one : start .header .result .next .at ≡ 1 = omega arith in
-    standing-as p (rw (one, is-header start) at (taken .before .opcode .ensures .0)) (rw (is-header start)) (taken .length .ensures .1 ∙ rw (at-length (taken .before), is-header start)) (rw (is-header start))
+    standing-as p (rw (one, is-header start) at (taken .before .opcode .ensures .0)) (rw (is-header start))
+    (taken .length .ensures .1 ∙ rw (at-length (taken .before), is-header start)) (is-size start)
     ∙ sym (framed-by p (no-2 (at-3 .before)) (no-3 at-3) (no-4 at-4) (no-5 at-5) (ap not (eq-eqb _ _ (rw (is-header start) at (c .if5 .left)))))
 
 pub frame-of-spec : {M : Type 1} → statement M

@@ -1,7 +1,5 @@
 -- Either arm is told which frame it has: a broken one's number is handed on, a sound one's is 0.
-use mathlib.Core.Path.{sym, ap}
 use borrow.Author.Needs.{needs}
-use Rattle.packet.specs.Reading.{refusedBy, frameAnswer}
 use Rattle.packet.proofs.refused.Statement.{statement}
 use Rattle.packet.proofs.refused.Tie as tie
 

@@ -42,11 +42,12 @@ returns c =
     let second = high .before .before .before .before in
     let first = second .before .before .before .before in
     let start = first .before .before .before .before in
-    let d = start .args .«data» .now in
-    (omega (arith, length-packet (start .args .opcode) (start .args .o) d),
-    stores (start .args .opcode) (start .args .o) d (start .args .buffer .now) (omega arith)
-    (first .put-byte .ensures) (second .put-byte2 .ensures) (high .put-high .ensures .1) (high .put-high .ensures .0) (sized .put-length .ensures .1)
-    (sized .put-length .ensures .0) (omega arith) (copied .copy .ensures) refl (summed .put-sum .ensures .1))
+    let d = start .args .«data» .now in (
+      omega (arith, length-packet (start .args .opcode) (start .args .o) d),
+      stores (start .args .opcode) (start .args .o) d (start .args .buffer .now) (omega arith)
+          (first .put-byte .ensures) (second .put-byte2 .ensures) (high .put-high .ensures .1) (high .put-high .ensures .0) (sized .put-length .ensures .1)
+          (sized .put-length .ensures .0) (omega arith) (copied .copy .ensures) refl (summed .put-sum .ensures .1),
+    )
 
 pub write-packet-spec : {M : Type 1} → statement M
 write-packet-spec =
