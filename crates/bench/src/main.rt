@@ -28,7 +28,13 @@ fn show(bytes: &[u8]) {
     io::write_all(1, b"packet");
     print_bytes(bytes, bytes.len());
     let r = packet::read(bytes);
-    let Reading::Command { opcode, options, at, size } = r else {
+    let Reading::Command {
+        opcode,
+        options,
+        at,
+        size,
+    } = r
+    else {
         print_number(b"\n  refused ", number_of(r));
         io::write_all(1, b"\n");
         return;
@@ -48,7 +54,12 @@ fn show(bytes: &[u8]) {
 fn number_of(r: Reading) -> u64 {
     match r {
         Reading::Refused(why) => why.number as u64,
-        Reading::Command { opcode: _, options: _, at: _, size: _ } => 0,
+        Reading::Command {
+            opcode: _,
+            options: _,
+            at: _,
+            size: _,
+        } => 0,
     }
 }
 

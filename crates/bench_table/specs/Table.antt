@@ -27,30 +27,30 @@ stateOf (p ∷ ps) s = stateOf ps (step p s buffer .state)
 -- Reset, with one byte of the block, a staged point, or a gain changed.
 abbrev pub withSetting : ℕ → ℕ → State
 withSetting place v =
-    record
-      { block = set (resetState .block) place v
-      ; staged = resetState .staged
-      ; live = resetState .live
-      ; gains = resetState .gains
-      }
+    record {
+      block = set (resetState .block) place v;
+      staged = resetState .staged;
+      live = resetState .live;
+      gains = resetState .gains;
+    }
 
 abbrev pub withPoint : ℕ → ℕ → ℕ → State
 withPoint place x y =
-    record
-      { block = resetState .block
-      ; staged = set (set (resetState .staged) place x) (Prim.Native.Nat._+_ place 1) y
-      ; live = resetState .live
-      ; gains = resetState .gains
-      }
+    record {
+      block = resetState .block;
+      staged = set (set (resetState .staged) place x) (Prim.Native.Nat._+_ place 1) y;
+      live = resetState .live;
+      gains = resetState .gains;
+    }
 
 abbrev pub withGain : ℕ → ℕ → State
 withGain place v =
-    record
-      { block = resetState .block
-      ; staged = resetState .staged
-      ; live = resetState .live
-      ; gains = set (resetState .gains) place v
-      }
+    record {
+      block = resetState .block;
+      staged = resetState .staged;
+      live = resetState .live;
+      gains = set (resetState .gains) place v;
+    }
 
 abbrev pub row : List ℕ → ℕ → List ℕ → State → Row
 row packet status reply after = record { before = []; packet = packet; status = status; reply = reply; after = after }
@@ -67,13 +67,13 @@ rows =
     -- * `04 11 01`: accepted, no reply.
     ∷ row (0x04 ∷ 0x11 ∷ 0x01 ∷ []) 0 [] (withSetting 0 1)
     -- * `84 11` after it: reply `00 01 00 01`.
-    ∷ record
-        { before = (0x04 ∷ 0x11 ∷ 0x01 ∷ []) ∷ []
-        ; packet = 0x84 ∷ 0x11 ∷ []
-        ; status = 0
-        ; reply = 0x00 ∷ 0x01 ∷ 0x00 ∷ 0x01 ∷ []
-        ; after = withSetting 0 1
-        }
+    ∷ record {
+      before = (0x04 ∷ 0x11 ∷ 0x01 ∷ []) ∷ [];
+      packet = 0x84 ∷ 0x11 ∷ [];
+      status = 0;
+      reply = 0x00 ∷ 0x01 ∷ 0x00 ∷ 0x01 ∷ [];
+      after = withSetting 0 1;
+    }
     -- * `44 11 01`: reply `00 00 00`.
     ∷ row (0x44 ∷ 0x11 ∷ 0x01 ∷ []) 0 (0x00 ∷ 0x00 ∷ 0x00 ∷ []) (withSetting 0 1)
     -- * `0C 11 00 01`: accepted as `04 11 01`.

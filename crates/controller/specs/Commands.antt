@@ -94,12 +94,12 @@ blockAfter op d block =
 -- The state after an accepted write.
 unfoldable pub written : ℕ → List ℕ → State → State
 written op d s =
-    record
-      { block = blockAfter op d (s .block)
-      ; staged = cond (eqb op 0x34) (writePoints (startOf d) (pointsOf d) (s .staged)) (s .staged)
-      ; live = cond (eqb op 0x36) (applyLive d (s .staged) (s .live)) (s .live)
-      ; gains = cond (eqb op 0x2B) (writeGains d (s .gains)) (s .gains)
-      }
+    record {
+      block = blockAfter op d (s .block);
+      staged = cond (eqb op 0x34) (writePoints (startOf d) (pointsOf d) (s .staged)) (s .staged);
+      live = cond (eqb op 0x36) (applyLive d (s .staged) (s .live)) (s .live);
+      gains = cond (eqb op 0x2B) (writeGains d (s .gains)) (s .gains);
+    }
 
 -- The data of an accepted read's reply: settings of the block. 36h returns enable, as the fixed commands return what they store.
 unfoldable pub blockBack : ℕ → List ℕ → List ℕ → List ℕ

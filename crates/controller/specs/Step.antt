@@ -53,12 +53,12 @@ pub record Out : Type 0 where
 
 abbrev pub outOf : ℕ → List ℕ → State → List ℕ → Out
 outOf number p s reply =
-    record
-      { status = number
-      ; size = length (replyTo number p s)
-      ; state = stateAfter number p s
-      ; reply = over (replyTo number p s) reply
-      }
+    record {
+      status = number;
+      size = length (replyTo number p s);
+      state = stateAfter number p s;
+      reply = over (replyTo number p s) reply;
+    }
 
 unfoldable pub step : List ℕ → State → List ℕ → Out
 step p s reply = outOf (numberOf p s reply) p s reply

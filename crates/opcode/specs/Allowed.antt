@@ -51,7 +51,7 @@ pub data WriteData : ℕ → List ℕ → Type 0 where
       → port ≤ 2 → on ≤ 1 → baud ≤ 11 → bits ≤ 3 → stop ≤ 1 → parity ≤ 2 → flow ≤ 1 → trigger ≤ 4 → trigger′ ≤ 4 → polarity ≤ 1
       → source ≤ 1
       → WriteData 0x6D
-          (port ∷ on ∷ baud ∷ bits ∷ stop ∷ parity ∷ flow ∷ trigger ∷ trigger′ ∷ polarity ∷ source ∷ [])
+      (port ∷ on ∷ baud ∷ bits ∷ stop ∷ parity ∷ flow ∷ trigger ∷ trigger′ ∷ polarity ∷ source ∷ [])
   -- | 39h | 0; 1 is refusal 11 |
   update : WriteData 0x39 (0 ∷ [])
   -- "34h map. Write: start, then n ≥ 1 points of 4 bytes, any 16-bit x and y"

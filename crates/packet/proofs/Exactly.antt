@@ -54,24 +54,33 @@ exactly p h = (λ n. to (sym (reading-number p) ∙ n), λ t. reading-number p �
     to : first (refusals p) ≡ 0 → Taken p
     to n =
         let s = first-silent (refusals p) (omega arith) n in
-        record
-          { frame =
-              record
-                { whole = ltb-false _ _ (s .0)
-                ; short = ltb-false _ _ (s .1 .0)
-                ; counted = λ e. eqb-true _ _ (option-true _ _ (s .1 .1 .0) (eq-eqb _ _ e))
-                ; summed = λ e. eqb-true _ _ (option-true _ _ (s .1 .1 .1 .0) (eq-eqb _ _ e))
-                }
-          ; here = eqb-true _ _ (not-false _ (s .1 .1 .1 .1 .0))
-          ; allowed = allows .0 (silent-first rest (s .1 .1 .1 .1 .1))
-          }
+        record {
+          frame =
+              record {
+                whole = ltb-false _ _ (s .0);
+                short = ltb-false _ _ (s .1 .0);
+                counted = λ e. eqb-true _ _ (option-true _ _ (s .1 .1 .0) (eq-eqb _ _ e));
+                summed = λ e. eqb-true _ _ (option-true _ _ (s .1 .1 .1 .0) (eq-eqb _ _ e));
+              };
+          here = eqb-true _ _ (not-false _ (s .1 .1 .1 .1 .0));
+          allowed = allows .0 (silent-first rest (s .1 .1 .1 .1 .1));
+        }
 
     from : Taken p → first (refusals p) ≡ 0
     from t =
-        silent-first (refusals p)
-        (le-ltb _ _ (t .frame .whole),
-        (le-ltb _ _ (t .frame .short),
-        (option-false _ _ (λ e. eq-eqb _ _ (t .frame .counted (eqb-true _ _ e))),
-        (option-false _ _ (λ e. eq-eqb _ _ (t .frame .summed (eqb-true _ _ e))),
-        (rw (eq-eqb _ _ (t .here)) refl,
-        first-silent rest (omega arith) (allows .1 (t .allowed)))))))
+        silent-first (refusals p) (
+          le-ltb _ _ (t .frame .whole),
+          (
+            le-ltb _ _ (t .frame .short),
+            (
+              option-false _ _ (λ e. eq-eqb _ _ (t .frame .counted (eqb-true _ _ e))),
+              (
+                option-false _ _ (λ e. eq-eqb _ _ (t .frame .summed (eqb-true _ _ e))),
+                (
+                  rw (eq-eqb _ _ (t .here)) refl,
+                  first-silent rest (omega arith) (allows .1 (t .allowed)),
+                ),
+              ),
+            ),
+          ),
+        )

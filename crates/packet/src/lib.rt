@@ -27,24 +27,24 @@ pub enum Reading {
 }
 
 // A place in a packet. Each step hands back what it took and the moved place.
-pub struct Cursor {
-    pub at: usize,
+struct Cursor {
+    at: usize,
 }
 
-pub struct Step {
-    pub value: usize,
-    pub next: Cursor,
+struct Step {
+    value: usize,
+    next: Cursor,
 }
 
 impl Cursor {
-    pub fn new() -> Self
+    fn new() -> Self
         ensures { λ r. ⌜ r .at ≡ 0 ⌝ }
     {
         Cursor { at: 0 }
     }
 
     // The header byte, 0 for an empty packet.
-    pub fn header(self, packet: &[u8]) -> Step
+    fn header(self, packet: &[u8]) -> Step
         requires { ⌜ self .at ≤ 512 ⌝ }
         ensures { λ r. ⌜ (r .value ≡ byteAt (now (packet .entry)) (self .at)) × (r .value < 256) × (r .next .at ≡ self .at + 1) ⌝ }
     {
@@ -56,7 +56,7 @@ impl Cursor {
     }
 
     // One byte, or two if the header says so.
-    pub fn opcode(self, packet: &[u8], header: usize) -> Step
+    fn opcode(self, packet: &[u8], header: usize) -> Step
         requires { ⌜ self .at ≤ 512 ⌝ }
         ensures { λ r. ⌜ (r .value ≡ byteAt (now (packet .entry)) (self .at) + 256 * (twoByte header * byteAt (now (packet .entry)) (self .at + 1)))
             × (r .value < 65536) × (r .next .at ≡ self .at + 1 + twoByte header) ⌝ }
@@ -75,7 +75,7 @@ impl Cursor {
     }
 
     // The length field; where the header announces none, the number of data bytes there.
-    pub fn length(self, packet: &[u8], header: usize, there: usize) -> Step
+    fn length(self, packet: &[u8], header: usize, there: usize) -> Step
         requires { ⌜ self .at ≤ 512 ⌝ }
         ensures { λ r. ⌜ (r .value ≡ cond (eqb (hasLength header) 1) (wordAt (now (packet .entry)) (self .at)) there)
             × (r .next .at ≡ self .at + 2 * hasLength header) ⌝ }

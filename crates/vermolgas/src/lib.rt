@@ -15,7 +15,13 @@ pub extern "C" fn vermolgas_read(packet: &[u8]) -> u64
     ensures { λ r. ⌜ r ≡ packedReading (reading (now (packet .entry))) ⌝ }
 {
     let r = packet::read(packet);
-    let Reading::Command { opcode, options, at, size } = r else {
+    let Reading::Command {
+        opcode,
+        options,
+        at,
+        size,
+    } = r
+    else {
         return read_refusal(r);
     };
     256 * opcode as u64 + 65536 * options as u64 + 16777216 * at as u64 + 4294967296 * size as u64
@@ -27,7 +33,12 @@ fn read_refusal(r: Reading) -> u64
 {
     match r {
         Reading::Refused(why) => why.number as u64,
-        Reading::Command { opcode: _, options: _, at: _, size: _ } => 0,
+        Reading::Command {
+            opcode: _,
+            options: _,
+            at: _,
+            size: _,
+        } => 0,
     }
 }
 
