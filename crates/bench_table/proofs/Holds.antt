@@ -2,7 +2,7 @@
 use lib.Dec.{T}
 use Rattle.wire.specs.Checksum.{total, checksum}
 use Rattle.wire.specs.Buffers.{over}
-use Rattle.opcode.specs.Fields.{fault, wordsAt, riseFrom, rise, inGains}
+use Rattle.opcode.specs.Fields.{fault, wordsAt, riseFrom, rise, firstLarge}
 use Rattle.opcode.specs.Commands.{commandOf}
 use Rattle.opcode.specs.Judgement.{judgement, pointsSizeWrong, gainsSizeWrong, controlSizeWrong, smoothSizeWrong, sizeWrong}
 use Rattle.opcode.specs.Judgement.{gainsFault, listsFault, controlFault, smoothFault, valueFault}
@@ -17,5 +17,5 @@ use Rattle.controller.specs.Step.{numberOf, replyTo, step}
 use Rattle.bench_table.specs.Table.{rows, allHold}
 
 pub rows-hold : T (allHold rows)
-unfolding total checksum over fault wordsAt riseFrom rise inGains commandOf judgement pointsSizeWrong gainsSizeWrong controlSizeWrong smoothSizeWrong sizeWrong gainsFault listsFault controlFault smoothFault valueFault replyBytes placeOf pictureFields deviceFields right shapeRight settingsRight resetShape resetBlock resetMap resetGains stopped writeGains readGains readPoints shapeBytes writeShape readShape applyBlock applyLive writeSmooth readSmooth blockAfter written blockBack dataBack runsPast numberOf replyTo step
+unfolding total checksum over fault wordsAt riseFrom rise firstLarge commandOf judgement pointsSizeWrong gainsSizeWrong controlSizeWrong smoothSizeWrong sizeWrong gainsFault listsFault controlFault smoothFault valueFault replyBytes placeOf pictureFields deviceFields right shapeRight settingsRight resetShape resetBlock resetMap resetGains stopped writeGains readGains readPoints shapeBytes writeShape readShape applyBlock applyLive writeSmooth readSmooth blockAfter written blockBack dataBack runsPast numberOf replyTo step
 rows-hold = tt

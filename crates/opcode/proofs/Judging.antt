@@ -12,7 +12,7 @@ use Rattle.wire.specs.Numbers.{byteAt, wordAt}
 use Rattle.wire.specs.First.{first}
 use Rattle.opcode.specs.declared.Row.{Row}
 use Rattle.opcode.specs.Options.{isRead, hasLength}
-use Rattle.opcode.specs.Fields.{fault, wordsAt, rise, inGains}
+use Rattle.opcode.specs.Fields.{fault, wordsAt, rise, firstLarge}
 use Rattle.opcode.specs.Commands.{commandOf}
 use Rattle.opcode.specs.Table.{fieldList, fieldsFrom, Matches}
 use Rattle.opcode.specs.Judgement.{judgement, sizeWrong, valueFault, fixedNumber, variableNumber}
@@ -62,16 +62,16 @@ module _ (d : List ℕ) (n : ℕ) (count : n ≡ wordAt d 2) where
             simp (gains-size, head-2B, le-ltb _ _ h, eq-eqb _ _ flag, le-ltb _ _ none)
 
         module _ (flag : byteAt d 0 ≡ 1 → ⊥) where
-          pub gains-high : inGains (wordsAt d 6 n) < n → gainsNumber d ≡ 10
+          pub gains-high : firstLarge (wordsAt d 6 n) < n → gainsNumber d ≡ 10
           unfolding gainsFault
           gains-high h′ =
-              let there : 6 + 2 * inGains (wordsAt d 6 n) < length d = omega arith in
+              let there : 6 + 2 * firstLarge (wordsAt d 6 n) < length d = omega arith in
               simp (gains-size, head-2B, le-ltb _ _ h, ne-eqb _ _ flag, ← count, lt-ltb _ _ there)
 
-          pub gains-fine : n ≤ inGains (wordsAt d 6 n) → gainsNumber d ≡ 0
+          pub gains-fine : n ≤ firstLarge (wordsAt d 6 n) → gainsNumber d ≡ 0
           unfolding gainsFault
           gains-fine h′ =
-              let none : length d ≤ 6 + 2 * inGains (wordsAt d 6 n) = omega arith in
+              let none : length d ≤ 6 + 2 * firstLarge (wordsAt d 6 n) = omega arith in
               simp (gains-size, head-2B, le-ltb _ _ h, ne-eqb _ _ flag, ← count, le-ltb _ _ none)
 
 -- 35h in mode 1.

@@ -10,7 +10,7 @@ use lib.ListN.{length, getD, take, drop}
 use lib.Seq.{take-add, drop-at, length-take-le, slice, slice-empty, slice-cons}
 use Rattle.wire.specs.Numbers.{wordAt}
 use Rattle.opcode.specs.declared.Field.{Field}
-use Rattle.opcode.specs.Fields.{fault, takes, number, wordsAt, rise, riseFrom, inGains}
+use Rattle.opcode.specs.Fields.{fault, takes, number, wordsAt, rise, riseFrom, firstLarge}
 use Rattle.opcode.specs.Table.{noField, fieldList, fieldsFrom}
 use Rattle.opcode.proofs.Table.{everywhere}
 
@@ -49,16 +49,16 @@ module _ (s : List ℕ) (at count : ℕ) where
     words-done h = let left : count - i ≡ 0 = omega arith in rw left
 
     pub gains-turn : i < count → wordAt s (at + 2 * i) ≤ 8191
-        → inGains (wordsAt s (at + 2 * i) (count - i)) ≡ suc (inGains (wordsAt s (at + 2 * (i + 1)) (count - (i + 1))))
-    unfolding inGains
+        → firstLarge (wordsAt s (at + 2 * i) (count - i)) ≡ suc (firstLarge (wordsAt s (at + 2 * (i + 1)) (count - (i + 1))))
+    unfolding firstLarge
     gains-turn h w = rw (words-turn h, le-leb _ _ w)
 
-    pub gains-stop : i < count → 8191 < wordAt s (at + 2 * i) → inGains (wordsAt s (at + 2 * i) (count - i)) ≡ 0
-    unfolding inGains
+    pub gains-stop : i < count → 8191 < wordAt s (at + 2 * i) → firstLarge (wordsAt s (at + 2 * i) (count - i)) ≡ 0
+    unfolding firstLarge
     gains-stop h w = rw (words-turn h, lt-leb _ _ w)
 
-    pub gains-done : count ≤ i → inGains (wordsAt s (at + 2 * i) (count - i)) ≡ 0
-    unfolding inGains
+    pub gains-done : count ≤ i → firstLarge (wordsAt s (at + 2 * i) (count - i)) ≡ 0
+    unfolding firstLarge
     gains-done h = rw (words-done h)
 
     pub rise-turn : (last : ℕ) → i < count → last < wordAt s (at + 2 * i)

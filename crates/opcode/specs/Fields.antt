@@ -51,6 +51,6 @@ rise [] = 0
 rise (w ∷ ws) = suc (riseFrom w ws)
 
 -- "Words 0-8191": the index of the first number above 8191, the list's length for none.
-unfoldable pub inGains : List ℕ → ℕ
-inGains [] = 0
-inGains (w ∷ ws) = cond (leb w 8191) (suc (inGains ws)) 0
+unfoldable pub firstLarge : List ℕ → ℕ
+firstLarge [] = 0
+firstLarge (w ∷ ws) = cond (leb w 8191) (suc (firstLarge ws)) 0

@@ -8,7 +8,7 @@ use Rattle.wire.specs.Numbers.{byteAt, wordAt}
 use Rattle.wire.specs.First.{first}
 use Rattle.opcode.specs.declared.Field.{Field}
 use Rattle.opcode.specs.Options.{hasLength, isRead}
-use Rattle.opcode.specs.Fields.{fault, wordsAt, rise, inGains}
+use Rattle.opcode.specs.Fields.{fault, wordsAt, rise, firstLarge}
 use Rattle.opcode.specs.Commands.{commandOf, notCarried, variable}
 
 -- 7: "the opcode isn't carried". No opcode over 255 is on the list.
@@ -41,6 +41,7 @@ smoothSizeWrong d =
     ltb (length d) 2
     || cond (ltb (fault (commandOf 0x38 .sets) d 0) 2) false (not (eqb (length d) (2 + 4 * (byteAt d 0 * byteAt d 1))))
 
+-- 9 of the four writes whose size varies.
 abbrev pub variableSizeWrong : ℕ → List ℕ → Bool
 variableSizeWrong op d =
     cond (eqb op 0x2B) (gainsSizeWrong d)
@@ -57,13 +58,14 @@ sizeWrong op o d =
 unfoldable pub gainsFault : List ℕ → ℕ
 gainsFault d =
     cond (ltb (fault (commandOf 0x2B .sets) d 0) 6) (fault (commandOf 0x2B .sets) d 0)
-    (cond (eqb (byteAt d 0) 1) (length d) (6 + 2 * inGains (wordsAt d 6 (wordAt d 2))))
+    (cond (eqb (byteAt d 0) 1) (length d) (6 + 2 * firstLarge (wordsAt d 6 (wordAt d 2))))
 
 -- In a 35h write. "Mode 1: 62 then 32 16-bit numbers, each of the two lists strictly rising (house)".
 unfoldable pub listsFault : List ℕ → ℕ
 listsFault d =
     cond (ltb (rise (wordsAt d 1 62)) 62) (1 + 2 * rise (wordsAt d 1 62)) (125 + 2 * rise (wordsAt d 125 32))
 
+-- "Mode 0: two 16-bit numbers, columns 2-62 and rows 2-32"; a mode above 1 is a fault of the first field.
 unfoldable pub controlFault : List ℕ → ℕ
 controlFault d = cond (eqb (byteAt d 0) 1) (listsFault d) (fault (commandOf 0x35 .sets) d 0)
 
@@ -87,16 +89,17 @@ abbrev pub valueWrong : ℕ → ℕ → List ℕ → Bool
 valueWrong op o d = ltb (valueFault op o d) (length d)
 
 -- 11: "the thing is named but not carried: merge mode, compressed gains".
-abbrev pub named : ℕ → ℕ → List ℕ → Bool
-named op o d = eqb (isRead o) 0 && (eqb op 0x39 || eqb op 0x2B) && eqb (byteAt d 0) 1
+abbrev pub namedOnly : ℕ → ℕ → List ℕ → Bool
+namedOnly op o d = eqb (isRead o) 0 && (eqb op 0x39 || eqb op 0x2B) && eqb (byteAt d 0) 1
 
+-- Document 01's rows 7 to 11, in its order.
 unfoldable pub judgement : ℕ → ℕ → List ℕ → List (ℕ × Bool)
 judgement op o d =
     (7, unknown op)
     ∷ (8, lacksLength op o)
     ∷ (9, sizeWrong op o d)
     ∷ (10, valueWrong op o d)
-    ∷ (11, named op o d)
+    ∷ (11, namedOnly op o d)
     ∷ []
 
 -- ---- The parts of the judgement that the code's leaves answer.

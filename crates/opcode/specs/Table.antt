@@ -76,7 +76,8 @@ unpackedRow x =
       «asks_count» = x % 256;
     }
 
--- A row says of its command what the list of commands says.
+-- A row says of its command what the list of commands says. Where its fields stand in the list of all fields is left free: a field of one
+-- range may stand there more than once, and a run of no fields stands anywhere; what holds is that the run is the command's fields.
 pub record Matches (r : Row) (c : Command) : Type 0 where
   pub mark : r .mark ≡ c .mark
   pub write : r .write ≡ c .write

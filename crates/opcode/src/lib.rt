@@ -4,7 +4,7 @@ ghost use mathlib.Core.Path.{_≡_};
 ghost use Prim.Native.Nat.{_+_, _<_, _≤_};
 ghost use lib.ListN.{getD};
 ghost use Rattle.wire.specs.First.{first};
-ghost use Rattle.opcode.specs.Fields.{takes, «fault», wordsAt, «rise», inGains};
+ghost use Rattle.opcode.specs.Fields.{takes, «fault», wordsAt, «rise», firstLarge};
 ghost use Rattle.opcode.specs.Fields.{«number» as numberAt};
 ghost use Rattle.opcode.specs.Commands.{commandOf};
 ghost use Rattle.opcode.specs.Judgement.{judgement, fixedNumber, variableNumber, gainsNumber, pointsNumber};
@@ -732,9 +732,9 @@ pub fn rise(s: &[u8], at: usize, count: usize) -> usize
 }
 
 // The index of the first of count gains from a place on that is above 8191, count for none.
-fn gains_right(s: &[u8], at: usize, count: usize) -> usize
+fn first_large(s: &[u8], at: usize, count: usize) -> usize
     requires { ⌜ (at ≤ 65536) × (count ≤ 65536) ⌝ }
-    ensures { λ r. ⌜ r ≡ inGains (wordsAt (now (s .entry)) at count) ⌝ }
+    ensures { λ r. ⌜ r ≡ firstLarge (wordsAt (now (s .entry)) at count) ⌝ }
 {
     let mut i = 0;
     while i < count {
@@ -834,7 +834,7 @@ fn judge_gains(data: &[u8]) -> Refusal
     if wire::byte(data, 0) == 1 {
         return Refusal { number: 11 };
     }
-    if gains_right(data, 6, count) < count {
+    if first_large(data, 6, count) < count {
         return Refusal { number: 10 };
     }
     Refusal { number: 0 }

@@ -22,6 +22,7 @@ present option s = cond (eqb option 1) s []
 abbrev pub headBytes : ℕ → ℕ → ℕ → List ℕ
 headBytes op o n = ((4 + o) ∷ op ∷ present (twoByte o) (0 ∷ [])) ++ present (hasLength o) (wordBytes n)
 
+-- "Then the opcode (1 or 2 bytes), length (0 or 2), data, checksum (0 or 1)."
 unfoldable pub packetOf : ℕ → ℕ → List ℕ → List ℕ
 packetOf op o d = sealed (eqb (hasSum o) 1) (headBytes op o (length d) ++ d)
 

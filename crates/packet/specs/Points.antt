@@ -1,4 +1,4 @@
--- Document 01, "34h map": what a 34h write does to a map, and to which packets it is one. The front end and the judge of upload plans share
+-- Document 01, "34h map": what a 34h write does to a map, and which packets are one. The front end and the judge of upload plans share
 -- this.
 use Prim.Native.Nat.{ℕ, _+_, _*_, _-_, _/_}
 use mathlib.Core.Bool.{Bool, cond, _&&_}
@@ -23,6 +23,7 @@ startOf d = wordAt d 0
 abbrev pub pointsOf : List ℕ → List ℕ
 pointsOf d = words (drop 2 d)
 
+-- "n ≥ 1 points of 4 bytes". "At most 126 fit: 6 + 4n bytes in the shortest form."
 abbrev pub countOf : List ℕ → ℕ
 countOf d = (length d - 2) / 4
 

@@ -37,6 +37,7 @@ checksumDiffers p =
 abbrev pub elsewhere : List ℕ → Bool
 elsewhere p = not (eqb (destination (headerOf p)) 4)
 
+-- Document 01's rows 2 to 6, in its order.
 abbrev pub frameRefusals : List ℕ → List (ℕ × Bool)
 frameRefusals p =
     (2, tooShort p)

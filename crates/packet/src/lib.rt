@@ -197,33 +197,33 @@ fn sum_differs(packet: &[u8], header: usize) -> bool
 }
 
 // What making answers: a status, document 01's number or 0, and the packet's size, 0 if refused.
-pub struct Packed {
+pub struct Made {
     pub status: u8,
     pub size: usize,
 }
 
 // Makes a packet in the buffer: any opcode, any options (header bits 3 to 7 in place, the others not looked at), any data, any buffer.
-pub fn make(opcode: u16, options: u8, data: &[u8], buffer: &mut [u8]) -> Packed
+pub fn make(opcode: u16, options: u8, data: &[u8], buffer: &mut [u8]) -> Made
     ensures { λ r. ⌜ record { status = r .status; size = r .size; buffer = now (buffer .exit) }
         ≡ made opcode options (now («data» .entry)) (now (buffer .entry)) ⌝ }
 {
     if buffer.len() < 512 {
-        return Packed { status: 1, size: 0 };
+        return Made { status: 1, size: 0 };
     }
     let o = options as usize / 8 * 8;
     let fields = 2 + o / 8 % 2 + 2 * (o / 16 % 2) + o / 32 % 2;
     if 512 - fields < data.len() {
-        return Packed { status: 3, size: 0 };
+        return Made { status: 3, size: 0 };
     }
     let why = opcode::judge(opcode as usize, o, data);
     if why.number != 0 {
-        return Packed {
+        return Made {
             status: why.number,
             size: 0,
         };
     }
     let size = write_packet(buffer, opcode as usize, o, data);
-    Packed { status: 0, size }
+    Made { status: 0, size }
 }
 
 // Writes a packet that fits, field by field, and answers its size.

@@ -15,12 +15,12 @@ use Rattle.reply.specs.Reading.{replyReading, sumSize, sumWrong}
 use Rattle.reply.proofs.Laws.{length-reply, front}
 
 pub record ReadsBack (sum : Bool) (status : ℕ) (d : List ℕ) : Type 0 where
-  pub reading : replyReading (replyBytes sum status d) sum ≡ record { number = 0; status = status; size = length d }
+  pub reading : replyReading (replyBytes sum status d) sum ≡ record { number = 0; status = status; place = 3; size = length d }
   pub content : take (length d) (drop 3 (replyBytes sum status d)) ≡ d
 
 -- Bytes that pass every test.
 passed : (r : List ℕ) (sum : Bool) (status size : ℕ) → length r ≡ size + 3 + sumSize sum → length r ≤ 512 → wordAt r 1 ≡ size
-    → sumWrong r sum ≡ false → byteAt r 0 ≡ status → status ≤ 12 → replyReading r sum ≡ record { number = 0; status = status; size = size }
+    → sumWrong r sum ≡ false → byteAt r 0 ≡ status → status ≤ 12 → replyReading r sum ≡ record { number = 0; status = status; place = 3; size = size }
 unfolding replyReading
 passed r sum status size long fits size-right sum-right status-there status-right =
     let behind : length r - 3 - sumSize sum ≡ size = omega arith in

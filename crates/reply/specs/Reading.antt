@@ -12,10 +12,11 @@ use Rattle.wire.specs.First.{first}
 use Rattle.reply.specs.declared.ReplyReading.{ReplyReading}
 use Rattle.reply.specs.declared.ReplyReading.the-variants.{Reply, Refused}
 
--- What reply reading gives: the refusal, 0 for none; then the status and the data's size, the data at place 3. Both 0 if refused.
+-- What reply reading gives: the refusal, 0 for none; then the status, the data's place and its size. All 0 but the number if refused.
 pub record ReplyAnswer : Type 0 where
   pub number : ℕ
   pub status : ℕ
+  pub place : ℕ
   pub size : ℕ
 
 -- The bytes of a checksum that is expected.
@@ -35,16 +36,19 @@ replyRefusals r sum =
     ∷ (10, ltb 12 (byteAt r 0))
     ∷ []
 
+abbrev pub refusedBy : ℕ → ReplyAnswer
+refusedBy n = record { number = n; status = 0; place = 0; size = 0 }
+
 abbrev pub replyAnswered : ℕ → List ℕ → Bool → ReplyAnswer
 replyAnswered n r sum =
     cond (eqb n 0)
-    (record { number = 0; status = byteAt r 0; size = length r - 3 - sumSize sum })
-    (record { number = n; status = 0; size = 0 })
+    (record { number = 0; status = byteAt r 0; place = 3; size = length r - 3 - sumSize sum })
+    (refusedBy n)
 
 unfoldable pub replyReading : List ℕ → Bool → ReplyAnswer
 replyReading r sum = replyAnswered (first (replyRefusals r sum)) r sum
 
 -- Number and values of each case of the code's answer.
 abbrev pub answer : ReplyReading → ReplyAnswer
-answer (Reply status size) = record { number = 0; status = status; size = size }
-answer (Refused why) = record { number = why .number; status = 0; size = 0 }
+answer (Reply status size) = record { number = 0; status = status; place = 3; size = size }
+answer (Refused why) = refusedBy (why .number)

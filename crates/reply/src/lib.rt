@@ -5,7 +5,7 @@ ghost use Prim.Native.Nat.{_+_, _<_, _≤_};
 ghost use lib.ListN.{length, take, drop};
 ghost use Rattle.wire.specs.Buffers.{over};
 ghost use Rattle.reply.specs.Reply.{replyBytes};
-ghost use Rattle.reply.specs.Reading.{answer, replyReading, sumSize, sumWrong};
+ghost use Rattle.reply.specs.Reading.{answer, refusedBy, replyReading, sumSize, sumWrong};
 
 // What a reply says: its status and the size of its data, which starts at place 3; or why it is none.
 pub enum ReplyReading {
@@ -60,7 +60,7 @@ fn sum_wrong(reply: &[u8], sum: bool) -> bool
 }
 
 fn refused(number: u8) -> ReplyReading
-    ensures { λ r. ⌜ answer r ≡ record { number = number; status = 0; size = 0 } ⌝ }
+    ensures { λ r. ⌜ answer r ≡ refusedBy number ⌝ }
 {
     ReplyReading::Refused(Refusal { number })
 }

@@ -8,7 +8,7 @@ use native.Mathlib.Omega.{arith}
 use lib.ListN.{length, take, drop, getD, set, length-append, length-take}
 use lib.Seq.{take-nil, drop-nil, sets, paste}
 use Rattle.wire.specs.Numbers.{wordAt, longAt}
-use Rattle.wire.specs.Tables.{pairs, halves, words, longs}
+use Rattle.wire.specs.Tables.{pairs, halves, words, longs, longBytes}
 
 double : (n : ℕ) → 2 * suc n ≡ suc (suc (2 * n))
 double n = omega arith
@@ -136,3 +136,14 @@ halves-below b [] h k = base-pos b (h 0)
 halves-below b (n ∷ l) h zero = mod-lt n (base-pos b (h 0))
 halves-below b (n ∷ l) h (suc zero) = div-lt-iff-lt-mul (base-pos b (h 0)) .1 (h 0)
 halves-below b (n ∷ l) h (suc (suc k)) = halves-below b l (λ j. h (suc j)) k
+
+-- 32-bit numbers: two steps of the same.
+pub longs-bytes : (l : List ℕ) → longs (longBytes l) ≡ l
+longs-bytes l = rw (pairs-halves 256, pairs-halves 65536)
+
+pub bytes-longs : (s : List ℕ) → length s % 4 ≡ 0 → ((k : ℕ) → getD s k 0 < 256) → longBytes (longs s) ≡ s
+bytes-longs s e h =
+    rw (
+      halves-pairs 65536 (words s) (rw length-pairs (omega arith)) (pairs-below 256 s h),
+      halves-pairs 256 s (omega arith) h,
+    )

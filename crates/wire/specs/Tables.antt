@@ -3,7 +3,7 @@
 use Prim.Native.Nat.{ℕ, _+_, _*_, _/_, _%_}
 use mathlib.Core.List.{List, [], _∷_}
 
--- Two digits make a number; a last digit alone makes none.
+-- Two digits make a number; a last digit alone makes none, so whoever lends bytes judges their length in bytes first.
 abbrev pub pairs : ℕ → List ℕ → List ℕ
 pairs b [] = []
 pairs b (x ∷ []) = []

@@ -10,7 +10,7 @@ use lib.ListN.{length, take, drop, getD, length-drop, drop-of-length-le}
 use lib.Seq.{drop-cons, take-all}
 use borrow.Author.Tests.{lt-ltb, le-ltb, le-leb, lt-leb}
 use Rattle.wire.specs.Tables.{words}
-use Rattle.opcode.specs.Fields.{wordsAt, riseFrom, rise, inGains}
+use Rattle.opcode.specs.Fields.{wordsAt, riseFrom, rise, firstLarge}
 use Rattle.opcode.specs.Allowed.{Rising, empty, single, next}
 
 -- The n elements from a place on.
@@ -84,18 +84,18 @@ rise-rising [] h = empty
 rise-rising (w ∷ ws) h = rising-from w ws (omega arith)
 
 -- Not above 8191.
-pub small-gains : (ws : List ℕ) → ((k : ℕ) → getD ws k 0 ≤ 8191) → inGains ws ≡ length ws
-unfolding inGains
+pub small-gains : (ws : List ℕ) → ((k : ℕ) → getD ws k 0 ≤ 8191) → firstLarge ws ≡ length ws
+unfolding firstLarge
 small-gains [] h = refl
 small-gains (w ∷ ws) h = rw (le-leb w 8191 (h 0)) (ap suc (small-gains ws (λ k. h (suc k))))
 
-first-small : (w : ℕ) (ws : List ℕ) → length (w ∷ ws) ≤ inGains (w ∷ ws) → (w ≤ 8191) × (length ws ≤ inGains ws)
-unfolding inGains
+first-small : (w : ℕ) (ws : List ℕ) → length (w ∷ ws) ≤ firstLarge (w ∷ ws) → (w ≤ 8191) × (length ws ≤ firstLarge ws)
+unfolding firstLarge
 first-small w ws h =
     elim (decLe w 8191)
     [ yes l ↦ (l, omega (arith, rw (le-leb w 8191 l) at h)) | no l ↦ absurd (omega (arith, rw (lt-leb w 8191 (omega arith)) at h)) ]
 
-pub gains-small : (ws : List ℕ) → length ws ≤ inGains ws → (k : ℕ) → getD ws k 0 ≤ 8191
+pub gains-small : (ws : List ℕ) → length ws ≤ firstLarge ws → (k : ℕ) → getD ws k 0 ≤ 8191
 gains-small [] h k = omega arith
 gains-small (w ∷ ws) h zero = first-small w ws h .0
 gains-small (w ∷ ws) h (suc k) = gains-small ws (first-small w ws h .1) k

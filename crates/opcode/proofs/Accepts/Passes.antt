@@ -22,24 +22,24 @@ namedWrite op d = (eqb op 0x39 || eqb op 0x2B) && eqb (byteAt d 0) 1
 pub record Passes (op : ℕ) (d : List ℕ) : Type 0 where
   pub size : cond (eqb (commandOf op .mark) variable) (variableSizeWrong op d) (not (eqb (length d) (commandOf op .write))) ≡ false
   pub value : ltb (cond (eqb (commandOf op .mark) variable) (variableFault op d) (fault (commandOf op .sets) d 0)) (length d) ≡ false
-  pub named : namedWrite op d ≡ false
+  pub namedOnly : namedWrite op d ≡ false
 
 pub passes-silent : (op o : ℕ) (d : List ℕ) → isRead o ≡ 0 → unknown op ≡ false → lacksLength op o ≡ false → Passes op d
     → Silent (judgement op o d)
 unfolding sizeWrong valueFault judgement
-passes-silent op o d h m l p = (m, (l, (rw h (p .size), (rw h (p .value), (rw h (p .named), tt)))))
+passes-silent op o d h m l p = (m, (l, (rw h (p .size), (rw h (p .value), (rw h (p .namedOnly), tt)))))
 
 pub silent-passes : (op o : ℕ) (d : List ℕ) → isRead o ≡ 0 → Silent (judgement op o d) → Passes op d
 unfolding sizeWrong valueFault judgement
 silent-passes op o d h s =
-    record { size = rw h at (s .1 .1 .0); value = rw h at (s .1 .1 .1 .0); named = rw h at (s .1 .1 .1 .1 .0) }
+    record { size = rw h at (s .1 .1 .0); value = rw h at (s .1 .1 .1 .0); namedOnly = rw h at (s .1 .1 .1 .1 .0) }
 
 -- Data of a fixed size is all fields.
 abbrev pub RightWrite : ℕ → List ℕ → Type 0
 RightWrite op d = Right (commandOf op .write) (commandOf op .sets) d
 
 pub right-passes : {op : ℕ} {d : List ℕ} → commandOf op .mark ≡ fixed → RightWrite op d → namedWrite op d ≡ false → Passes op d
-right-passes {op} {d} m r n = record { size = rw m (right-size r); value = rw m (right-value (sets-span op m) r); named = n }
+right-passes {op} {d} m r n = record { size = rw m (right-size r); value = rw m (right-value (sets-span op m) r); namedOnly = n }
 
 pub passes-right : (op : ℕ) (d : List ℕ) → commandOf op .mark ≡ fixed → Passes op d → RightWrite op d
 passes-right op d m p =

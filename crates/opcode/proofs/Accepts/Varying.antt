@@ -11,7 +11,7 @@ use lib.Dec.{eqb, ltb}
 use borrow.Author.Tests.{ltb-false, eqb-false, lt-ltb, le-ltb, le-leb, eq-eqb, ne-eqb}
 use Rattle.wire.specs.Numbers.{byteAt, wordAt}
 use Rattle.wire.specs.Tables.{words}
-use Rattle.opcode.specs.Fields.{word, fault, wordsAt, rise, inGains}
+use Rattle.opcode.specs.Fields.{word, fault, wordsAt, rise, firstLarge}
 use Rattle.opcode.specs.Commands.{commandOf, flag}
 use Rattle.opcode.specs.Judgement.{pointsSizeWrong, smoothSizeWrong, smoothFault, gainsSizeWrong, gainsFault, controlSizeWrong, controlFault, listsFault}
 use Rattle.opcode.specs.Allowed.{WriteData, points, smooth, shape, lists, Rising}
@@ -38,7 +38,7 @@ points-passes d n h e =
     record {
       size = rw (le-leb 6 (length d) (omega arith), eq-eqb (length d % 4) 2 (omega arith));
       value = le-ltb (length d) (length d) (omega arith);
-      named = refl;
+      namedOnly = refl;
     }
 
 -- A head of n bytes and then the rest: no fault in the whole is none in the head.
@@ -68,7 +68,7 @@ smooth-passes d a e =
     record {
       size = rw (behind, le-ltb (length d) 2 (omega arith), eq-eqb (length d) (2 + 4 * (byteAt d 0 * byteAt d 1)) e);
       value = rw behind (le-ltb (length d) (length d) (omega arith));
-      named = refl;
+      namedOnly = refl;
     }
 
 -- 2Bh.
@@ -83,8 +83,8 @@ passes-gains d p =
     let whole : length d ≡ 6 + 2 * count = search told in
     let behind : 6 ≤ head = past-head head 6 _ (length d) long (p .value) in
     let values : All (commandOf 0x2B .sets) d 0 = fault-all (commandOf 0x2B .sets) (omega arith) d 0 behind in
-    let plain : byteAt d 0 ≡ 0 = omega (arith, eqb-false (byteAt d 0) 1 (p .named)) in
-    let words-size = ltb-false (6 + 2 * inGains gains) (length d) (rw (le-ltb head 6 behind, p .named) at (p .value)) in
+    let plain : byteAt d 0 ≡ 0 = omega (arith, eqb-false (byteAt d 0) 1 (p .namedOnly)) in
+    let words-size = ltb-false (6 + 2 * firstLarge gains) (length d) (rw (le-ltb head 6 behind, p .namedOnly) at (p .value)) in
     let small : (k : ℕ) → getD (words (drop 6 d)) k 0 ≤ 8191 =
     rw (← words-rest count d 6 whole) (gains-small gains (omega (arith, length-wordsAt count d 6))) in
     let rest : length (drop 6 d) ≡ 2 * count = rw length-drop (omega arith) in
@@ -97,11 +97,11 @@ gains-passes d a z e h =
     let count = wordAt d 2 in
     let gains = wordsAt d 6 count in
     let behind : fault (commandOf 0x2B .sets) d 0 ≡ 6 = all-fault (commandOf 0x2B .sets) d 0 a in
-    let small : inGains gains ≡ length gains = small-gains gains (rw (words-rest count d 6 e) h) in
+    let small : firstLarge gains ≡ length gains = small-gains gains (rw (words-rest count d 6 e) h) in
     record {
       size = rw (le-leb 6 (length d) (omega arith), eq-eqb (length d) (6 + 2 * count) e);
-      value = rw (behind, z) (le-ltb (6 + 2 * inGains gains) (length d) (omega (arith, length-wordsAt count d 6)));
-      named = rw z;
+      value = rw (behind, z) (le-ltb (6 + 2 * firstLarge gains) (length d) (omega (arith, length-wordsAt count d 6)));
+      namedOnly = rw z;
     }
 
 -- 35h, mode 0.
@@ -111,7 +111,7 @@ right-shape d z r = rw (exactly d 5 (r .sized), z) (search (shape, arith))
 
 pub shape-passes : (d : List ℕ) → byteAt d 0 ≡ 0 → Right 5 (commandOf 0x35 .sets) d → Passes 0x35 d
 unfolding commandOf controlSizeWrong controlFault
-shape-passes d z r = record { size = rw (z, r .sized); value = rw z (right-value refl r); named = refl }
+shape-passes d z r = record { size = rw (z, r .sized); value = rw z (right-value refl r); namedOnly = refl }
 
 -- Mode 1: both lists rise.
 pub record Lists (d : List ℕ) : Type 0 where
@@ -163,7 +163,7 @@ joined-lists xs ys ex ey rx ry =
 
 pub lists-passes : (d : List ℕ) → Lists d → Passes 0x35 d
 unfolding commandOf controlSizeWrong controlFault
-lists-passes d r = record { size = rw (r .mode, r .sized); value = rw (r .mode) (lists-fault d r); named = refl }
+lists-passes d r = record { size = rw (r .mode, r .sized); value = rw (r .mode) (lists-fault d r); namedOnly = refl }
 
 pub passes-control : (d : List ℕ) → Passes 0x35 d → WriteData 0x35 d
 unfolding commandOf controlSizeWrong controlFault

@@ -39,7 +39,7 @@ passes-update : (d : List ℕ) → Passes 0x39 d → WriteData 0x39 d
 unfolding commandOf
 passes-update d p =
     let r = passes-right 0x39 d refl p in
-    let e : getD d 0 0 ≡ 0 = omega (arith, eqb-false (byteAt d 0) 1 (p .named)) in
+    let e : getD d 0 0 ≡ 0 = omega (arith, eqb-false (byteAt d 0) 1 (p .namedOnly)) in
     rw (exactly d 1 (r .sized), e) WriteData.update
 
 passes-pwm : (d : List ℕ) → Passes 0x65 d → WriteData 0x65 d

@@ -33,8 +33,8 @@ byte-requires c κs = search needs
 returns-4 : tie.Need-returns-4
 returns-4 c = sym (gains-compressed (c .before .before .before .before .before .before .before .before .args .«data» .now) _ (c .before .before .before .before .before .word .ensures .0) (omega arith) (omega arith) (omega arith) (omega arith))
 
-gains-right-requires : tie.Need-gains-right-requires
-gains-right-requires c κs = search needs
+first-large-requires : tie.Need-first-large-requires
+first-large-requires c κs = search needs
 
 returns-5 : tie.Need-returns-5
 returns-5 c = sym (gains-high (c .before .before .before .before .before .before .before .before .before .before .args .«data» .now) _ (c .before .before .before .before .before .before .before .word .ensures .0) (omega arith) (omega arith) (omega arith) (omega arith) (omega arith))
@@ -55,6 +55,6 @@ judge-gains-spec =
     returns-3
     byte-requires
     returns-4
-    gains-right-requires
+    first-large-requires
     returns-5
     returns-6)

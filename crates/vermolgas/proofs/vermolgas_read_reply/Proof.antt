@@ -13,7 +13,7 @@ use Rattle.vermolgas.proofs.vermolgas_read_reply.Tie as tie
 
 -- What the pattern took apart is what reply reading gives.
 found : (c : tie.After-known-told)
-    → record { number = 0; status = c .before .r .given .0 .0; size = c .before .r .given .0 .1 .0 }
+    → record { number = 0; status = c .before .r .given .0 .0; place = 3; size = c .before .r .given .0 .1 .0 }
     ≡ replyReading (c .before .before .before .before .before .args .reply .now) (not (eqb (c .before .before .before .before .before .args .checksum) 0))
 found c = rw (c .before .r .given .1) at (c .before .before .before .read-reply .ensures)
 

@@ -2,14 +2,14 @@
 use mathlib.Core.Path.{_≡_}
 use Prim.Native.Nat.{_+_, _*_, _-_, _≤_}
 use native.Mathlib.Omega.{arith}
-use Rattle.opcode.specs.Fields.{wordsAt, inGains}
+use Rattle.opcode.specs.Fields.{wordsAt, firstLarge}
 use Rattle.opcode.proofs.Laws.{words-start, gains-turn, gains-stop, gains-done}
 use borrow.Author.Needs.{needs}
-use Rattle.opcode.proofs.gains_right.Statement.{statement}
-use Rattle.opcode.proofs.gains_right.Tie as tie
+use Rattle.opcode.proofs.first_large.Statement.{statement}
+use Rattle.opcode.proofs.first_large.Tie as tie
 
 abbrev Inv-loop : tie.InvT-loop
-Inv-loop s at count i₀ i = (i ≤ count) × (inGains (wordsAt s at count) ≡ i + inGains (wordsAt s (at + 2 * i) (count - i)))
+Inv-loop s at count i₀ i = (i ≤ count) × (firstLarge (wordsAt s at count) ≡ i + firstLarge (wordsAt s (at + 2 * i) (count - i)))
 
 abbrev μ-loop : tie.MeasureT-loop
 μ-loop s at count i₀ i = count - i
@@ -50,8 +50,8 @@ returns-2 c =
     let i = c .before .loop .i in
     omega (arith, gains-done (args .s .now) (args .at) (args .count) i (omega arith))
 
-pub gains-right-spec : {M : Type 1} → statement M
-gains-right-spec =
+pub first-large-spec : {M : Type 1} → statement M
+first-large-spec =
     tie.close
     (tie.spec
     Inv-loop
