@@ -1,2 +1,2 @@
--- Document 01's bench packets marked *, in the paper's order. The row about planning joins with planning.
+-- Document 01's bench packets and plans marked *, in the paper's order.
 pub mod Table

@@ -1,5 +1,6 @@
 -- Document 01, "Bench packets (hex)": "Proved together as a single table with a single statement: those marked *. Each starts from reset
--- unless said." Each row: the packets before, the packet, the status, all bytes of the reply, and the whole state after.
+-- unless said." Each row of a packet: the packets before, the packet, the status, all bytes of the reply, and the whole state after. Each row
+-- of a plan: held and wanted, the plan's starts and counts, and the batch.
 use Prim.Native.Nat.{ℕ}
 use mathlib.Core.Bool.{Bool, true, false, _&&_}
 use mathlib.Core.List.{List, [], _∷_, _++_}
@@ -7,13 +8,25 @@ use lib.ListN.{length, drop, set, replicate}
 use lib.Dec.{eqb}
 use Rattle.controller.specs.State.{State, resetState}
 use Rattle.controller.specs.Step.{Out, step}
+use Rattle.upload.specs.Plan.{planOf, cost, batchOf, planNumbers}
 
-pub record Row : Type 0 where
+pub record PacketRow : Type 0 where
   pub before : List (List ℕ)
   pub packet : List ℕ
   pub status : ℕ
   pub reply : List ℕ
   pub after : State
+
+pub record PlanRow : Type 0 where
+  pub held : List ℕ
+  pub wanted : List ℕ
+  pub parts : List ℕ
+  pub bytes : ℕ
+  pub batch : List ℕ
+
+pub data Row : Type 0 where
+  packets : PacketRow → Row
+  plans : PlanRow → Row
 
 -- A reply buffer of 512 bytes whose pattern shows what was written.
 abbrev pub buffer : List ℕ
@@ -53,7 +66,7 @@ withGain place v =
     }
 
 abbrev pub row : List ℕ → ℕ → List ℕ → State → Row
-row packet status reply after = record { before = []; packet = packet; status = status; reply = reply; after = after }
+row packet status reply after = packets (record { before = []; packet = packet; status = status; reply = reply; after = after })
 
 -- A refused packet, with no reply asked for.
 abbrev pub refused : List ℕ → ℕ → Row
@@ -67,13 +80,13 @@ rows =
     -- * `04 11 01`: accepted, no reply.
     ∷ row (0x04 ∷ 0x11 ∷ 0x01 ∷ []) 0 [] (withSetting 0 1)
     -- * `84 11` after it: reply `00 01 00 01`.
-    ∷ record {
+    ∷ packets (record {
       before = (0x04 ∷ 0x11 ∷ 0x01 ∷ []) ∷ [];
       packet = 0x84 ∷ 0x11 ∷ [];
       status = 0;
       reply = 0x00 ∷ 0x01 ∷ 0x00 ∷ 0x01 ∷ [];
       after = withSetting 0 1;
-    }
+    })
     -- * `44 11 01`: reply `00 00 00`.
     ∷ row (0x44 ∷ 0x11 ∷ 0x01 ∷ []) 0 (0x00 ∷ 0x00 ∷ 0x00 ∷ []) (withSetting 0 1)
     -- * `0C 11 00 01`: accepted as `04 11 01`.
@@ -91,6 +104,17 @@ rows =
     ∷ refused (0x14 ∷ 0x34 ∷ 0x06 ∷ 0x00 ∷ 0xC0 ∷ 0x07 ∷ 0x01 ∷ 0x00 ∷ 0x02 ∷ 0x00 ∷ []) 12
     -- * `14 2B 08 00 00 01 01 00 DF 07 00 14`: red gain 2015 becomes 5120.
     ∷ row (0x14 ∷ 0x2B ∷ 0x08 ∷ 0x00 ∷ 0x00 ∷ 0x01 ∷ 0x01 ∷ 0x00 ∷ 0xDF ∷ 0x07 ∷ 0x00 ∷ 0x14 ∷ []) 0 [] (withGain 2015 5120)
+    -- * Points 0 and 3 differ: two, 20 bytes.
+    ∷ plans
+      (record {
+        held = 0 ∷ 0 ∷ 5 ∷ 6 ∷ 7 ∷ 8 ∷ 9 ∷ 0x10A ∷ [];
+        wanted = 1 ∷ 2 ∷ 5 ∷ 6 ∷ 7 ∷ 8 ∷ 9 ∷ 0x20B ∷ [];
+        parts = 0 ∷ 1 ∷ 3 ∷ 1 ∷ [];
+        bytes = 20;
+        batch =
+          0x14 ∷ 0x34 ∷ 0x06 ∷ 0x00 ∷ 0x00 ∷ 0x00 ∷ 0x01 ∷ 0x00 ∷ 0x02 ∷ 0x00
+          ∷ 0x14 ∷ 0x34 ∷ 0x06 ∷ 0x00 ∷ 0x03 ∷ 0x00 ∷ 0x09 ∷ 0x00 ∷ 0x0B ∷ 0x02 ∷ [];
+      })
     ∷ []
 
 abbrev pub sameList : List ℕ → List ℕ → Bool
@@ -107,15 +131,23 @@ sameState s t =
     && sameList (s .gains) (t .gains)
 
 -- What a packet gave is what the row says.
-abbrev pub agrees : Row → Out → Bool
+abbrev pub agrees : PacketRow → Out → Bool
 agrees r o =
     eqb (o .status) (r .status)
     && eqb (o .size) (length (r .reply))
     && sameList (o .reply) (r .reply ++ drop (length (r .reply)) buffer)
     && sameState (o .state) (r .after)
 
+-- What planning gives is what the row says: starts and counts, the batch, and its bytes.
+abbrev pub plansAs : PlanRow → Bool
+plansAs r =
+    sameList (planNumbers (planOf (r .held) (r .wanted))) (r .parts)
+    && eqb (cost (planOf (r .held) (r .wanted))) (r .bytes)
+    && sameList (batchOf (r .held) (r .wanted)) (r .batch)
+
 abbrev pub holds : Row → Bool
-holds r = agrees r (step (r .packet) (stateOf (r .before) resetState) buffer)
+holds (packets r) = agrees r (step (r .packet) (stateOf (r .before) resetState) buffer)
+holds (plans r) = plansAs r
 
 abbrev pub allHold : List Row → Bool
 allHold [] = true

@@ -1,0 +1,11 @@
+-- Laws of upload planning: the least bytes; the lists that cover what differs; what packets do to maps; and the theorems: demand 3 about whole lists
+-- of packets, and that the plan is the list that document 01 fixes.
+pub mod Best
+pub mod Least
+pub mod Covers
+pub mod Differs
+pub mod Reading
+pub mod Lists
+pub mod Choice
+pub mod Bytes
+pub mod Examples

@@ -1,0 +1,35 @@
+-- Document 01, "Upload plan": the least bytes for what is left of a map. A packet of count points costs 6 + 4 × count bytes, count 1-126.
+use Prim.Native.Nat.{ℕ, zero, suc, _+_, min}
+use mathlib.Core.Bool.{Bool, true, false, not, cond, _&&_}
+use mathlib.Core.List.{List, [], _∷_}
+use lib.Dec.{eqb, leb}
+
+-- For each point, whether held and wanted (two numbers a point) differ there.
+unfoldable pub differs : List ℕ → List ℕ → List Bool
+differs [] w = []
+differs (x ∷ []) w = []
+differs (x ∷ y ∷ h) [] = []
+differs (x ∷ y ∷ h) (a ∷ []) = []
+differs (x ∷ y ∷ h) (a ∷ b ∷ w) = not (eqb x a && eqb y b) ∷ differs h w
+
+-- The least bytes for what is left, where the open packet may still take k points at 4 bytes each. The list holds for each point that is
+-- left, and at last for the end, the least bytes from there on with no packet open.
+unfoldable pub best : ℕ → List ℕ → ℕ
+best k [] = 0
+best zero (x ∷ r) = x
+best (suc k) (x ∷ r) = min x (4 + best k r)
+
+-- A point that does not differ needs no packet; one that does opens one: 6 bytes and its own 4, with 125 points more to take.
+abbrev pub least : Bool → List ℕ → ℕ
+least d r = cond d (10 + best 125 r) (best 0 r)
+
+-- "working room holds at each index i below N the least bytes for the points from i on": N + 1 numbers, the last one 0.
+unfoldable pub rooms : List Bool → List ℕ
+rooms [] = 0 ∷ []
+rooms (d ∷ ds) = least d (rooms ds) ∷ rooms ds
+
+-- How many points more the open packet takes, of at most k: the smallest number that costs least.
+unfoldable pub more : ℕ → List ℕ → ℕ
+more zero r = 0
+more (suc k) [] = 0
+more (suc k) (x ∷ r) = cond (leb x (4 + best k r)) 0 (suc (more k r))

@@ -1,0 +1,1 @@
+// Upload planning: definitions and theorems (see specs/ and proofs/).
