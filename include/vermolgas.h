@@ -1,4 +1,4 @@
-/* Vermolgas: packets of the projector front end, for C and C++.
+/* Vermolgas: the projector front end and its packets, for C and C++.
  *
  * Link with libvermolgas.a (x86-64).
  *
@@ -8,9 +8,11 @@
  * - A buffer that is written overlaps no other buffer of the call. Buffers that are only read may overlap.
  * - A pointer is to as many bytes as the length behind it says. With length 0 it may be any pointer, NULL too.
  *
- * Every answer is one number. Its low byte is 0 if the call was accepted, else the number of the refusal; after a
- * refusal its other fields are 0 and every buffer is unchanged. The macros below take an answer apart; each uses its
- * argument once.
+ * No entry keeps anything between calls: all state is in the buffers lent to it.
+ *
+ * Every answer is one number. Its low byte is 0 if the call was accepted, else the number of the refusal. After a
+ * refusal its other fields are 0 and every buffer is unchanged; vermolgas_packet alone still replies. The macros below
+ * take an answer apart; each uses its argument once.
  */
 #ifndef VERMOLGAS_H
 #define VERMOLGAS_H
@@ -42,6 +44,12 @@ enum vermolgas_refusal {
 /* The longest packet and the longest reply, in bytes. */
 #define VERMOLGAS_LONGEST 512
 
+/* What a host keeps for one controller and lends with each call, in bytes. Numbers lie low byte first. */
+#define VERMOLGAS_BLOCK_BYTES 1024  /* settings; the layout is in docs/ */
+#define VERMOLGAS_MAP_BYTES   7936  /* a warp map, staged or live: 1,984 points, each 16 bits x and then y */
+#define VERMOLGAS_GAINS_BYTES 12096 /* 2,016 gains of 16 bits for red, then for green, then for blue */
+#define VERMOLGAS_REPLY_BYTES 512   /* room for every reply; a longer buffer is taken, too */
+
 /* Header bits, in place: what VERMOLGAS_READ_OPTIONS gives and vermolgas_make takes. */
 #define VERMOLGAS_OPTION_TWO_BYTE_OPCODE 0x08
 #define VERMOLGAS_OPTION_LENGTH          0x10 /* the packet has a length field */
@@ -51,6 +59,36 @@ enum vermolgas_refusal {
 
 /* Any answer: 0 or the refusal. */
 #define VERMOLGAS_STATUS(answer) ((unsigned)((uint64_t)(answer) & 0xFF))
+
+/* Puts a controller into its state after reset: zeros everywhere, but each gain 4096 (1.0), the warp map's shape
+ * 62 x 32 in mode 0, staged and live, control point lists 0, 1, 2 and so on, the smooth table's shape 3 x 3, and PWM
+ * frequencies 20. Every byte of the four buffers is written, whatever it was.
+ *
+ * The lengths are VERMOLGAS_BLOCK_BYTES, VERMOLGAS_MAP_BYTES twice and VERMOLGAS_GAINS_BYTES, exactly. Any other is
+ * refusal 1, and no byte is changed.
+ */
+uint64_t vermolgas_reset(uint8_t *block, size_t block_length, uint8_t *staged, size_t staged_length, uint8_t *live,
+                         size_t live_length, uint8_t *gains, size_t gains_length);
+
+/* Takes one packet, the whole slice given, and writes one reply or none.
+ *
+ * Refusal 1 comes first: a length that differs from those above (of the reply buffer, one under VERMOLGAS_REPLY_BYTES),
+ * or a stored setting out of its range, staged or live. What the tables hold is not judged. Then come the refusals of
+ * vermolgas_read, 2 to 11, and then 12. The number is the first that applies.
+ *
+ * An accepted write changes what its command names and nothing else. An accepted read and every refusal change no
+ * byte of the block and of the tables. Block bytes without a meaning, 865 to 1023, stay as they are.
+ *
+ * A reply is written, at the start of the reply buffer, exactly if the packet has a first byte, its bit 6 or bit 7 is
+ * set, and the refusal isn't 1. It is the status, the length of the data in two bytes, the data of an accepted read,
+ * and a checksum if the packet's bit 5 is set; vermolgas_read_reply reads it back. The buffer past the reply is
+ * unchanged, and all of it if no reply is written. The answer has the reply's length, 0 for none, on a refusal too.
+ */
+uint64_t vermolgas_packet(const uint8_t *packet, size_t packet_length, uint8_t *block, size_t block_length,
+                          uint8_t *staged, size_t staged_length, uint8_t *live, size_t live_length, uint8_t *gains,
+                          size_t gains_length, uint8_t *reply, size_t reply_length);
+
+#define VERMOLGAS_PACKET_REPLY_LENGTH(answer) ((size_t)((uint64_t)(answer) >> 8 & 0xFFFF))
 
 /* Reads one packet, the whole slice given, apart from any settings. Refusals 2 to 11.
  *

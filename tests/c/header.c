@@ -22,6 +22,83 @@ static void check(int holds, const char *what, int line)
 /* A packet or reply with its length, from a list of bytes. */
 #define BYTES(...) (const uint8_t[]){__VA_ARGS__}, sizeof((const uint8_t[]){__VA_ARGS__})
 
+static struct {
+    uint8_t block[VERMOLGAS_BLOCK_BYTES], staged[VERMOLGAS_MAP_BYTES], live[VERMOLGAS_MAP_BYTES];
+    uint8_t gains[VERMOLGAS_GAINS_BYTES], reply[VERMOLGAS_REPLY_BYTES];
+} lent;
+
+/* What is lent, as arguments of a call. */
+#define LENT                                                                                                          \
+    lent.block, sizeof lent.block, lent.staged, sizeof lent.staged, lent.live, sizeof lent.live, lent.gains,          \
+        sizeof lent.gains
+
+static uint64_t send(const uint8_t *packet, size_t length)
+{
+    return vermolgas_packet(packet, length, LENT, lent.reply, sizeof lent.reply);
+}
+
+/* The answer of an accepted packet with a reply of this length. */
+static uint64_t replied(size_t length)
+{
+    return (uint64_t)length << 8;
+}
+
+static void reset_controllers(void)
+{
+    memset(&lent, 0xAA, sizeof lent);
+    CHECK(vermolgas_reset(LENT) == VERMOLGAS_ACCEPTED);
+    CHECK(lent.block[0] == 0 && lent.block[9] == 62 && lent.block[VERMOLGAS_BLOCK_BYTES - 1] == 0);
+    CHECK(lent.staged[0] == 0 && lent.live[VERMOLGAS_MAP_BYTES - 1] == 0);
+    CHECK(lent.gains[0] == 0x00 && lent.gains[VERMOLGAS_GAINS_BYTES - 1] == 0x10);
+    CHECK(lent.reply[0] == 0xAA);
+
+    lent.block[0] = 4;
+    CHECK(vermolgas_reset(lent.block, sizeof lent.block - 1, lent.staged, sizeof lent.staged, lent.live,
+                          sizeof lent.live, lent.gains, sizeof lent.gains) == VERMOLGAS_REFUSED_LENT);
+    CHECK(vermolgas_reset(NULL, 0, NULL, 0, NULL, 0, NULL, 0) == VERMOLGAS_REFUSED_LENT);
+    CHECK(lent.block[0] == 4);
+}
+
+static void send_packets(void)
+{
+    CHECK(vermolgas_reset(LENT) == VERMOLGAS_ACCEPTED);
+    memset(lent.reply, 0xAA, sizeof lent.reply);
+    CHECK(send(BYTES(0x04, 0x11, 0x01)) == replied(0));
+    CHECK(lent.block[0] == 1 && lent.reply[0] == 0xAA);
+
+    uint64_t display = send(BYTES(0x84, 0x11));
+    CHECK(VERMOLGAS_STATUS(display) == VERMOLGAS_ACCEPTED);
+    CHECK(VERMOLGAS_PACKET_REPLY_LENGTH(display) == 4);
+    CHECK(memcmp(lent.reply, (const uint8_t[]){0x00, 0x01, 0x00, 0x01, 0xAA}, 5) == 0);
+
+    CHECK(send(BYTES(0x44, 0x11, 0x01)) == replied(3));
+    CHECK(memcmp(lent.reply, (const uint8_t[]){0x00, 0x00, 0x00}, 3) == 0);
+    CHECK(send(BYTES(0x14, 0x34, 0x06, 0x00, 0xBF, 0x07, 0x01, 0x00, 0x02, 0x00)) == replied(0));
+    CHECK(memcmp(lent.staged + 4 * 1983, (const uint8_t[]){0x01, 0x00, 0x02, 0x00}, 4) == 0);
+    CHECK(send(BYTES(0x14, 0x2B, 0x08, 0x00, 0x00, 0x01, 0x01, 0x00, 0xDF, 0x07, 0x00, 0x14)) == replied(0));
+    CHECK(lent.gains[2 * 2015] == 0x00 && lent.gains[2 * 2015 + 1] == 0x14);
+    CHECK(send(BYTES(0xA4, 0x34, 0x00, 0x00, 0x7F, 0x00, 0x57)) == replied(VERMOLGAS_LONGEST));
+}
+
+static void refuse_sent_packets(void)
+{
+    CHECK(vermolgas_reset(LENT) == VERMOLGAS_ACCEPTED);
+    CHECK(send(NULL, 0) == VERMOLGAS_REFUSED_TOO_SHORT);
+    CHECK(send(BYTES(0x60)) == (VERMOLGAS_REFUSED_TOO_SHORT | replied(4)));
+    CHECK(send(BYTES(0x04, 0x11, 0x05)) == VERMOLGAS_REFUSED_RANGE);
+    CHECK(send(BYTES(0x14, 0x34, 0x06, 0x00, 0xC0, 0x07, 0x01, 0x00, 0x02, 0x00)) == VERMOLGAS_REFUSED_PAST_TABLE);
+
+    uint64_t past = send(BYTES(0x84, 0x34, 0xFF, 0xFF, 0x02, 0x00));
+    CHECK(VERMOLGAS_STATUS(past) == VERMOLGAS_REFUSED_PAST_TABLE);
+    CHECK(VERMOLGAS_PACKET_REPLY_LENGTH(past) == 3);
+    CHECK(VERMOLGAS_REPLY_STATUS(vermolgas_read_reply(lent.reply, 3, 0)) == VERMOLGAS_REFUSED_PAST_TABLE);
+
+    CHECK(vermolgas_packet(BYTES(0x84, 0x11), LENT, lent.reply, sizeof lent.reply - 1) == VERMOLGAS_REFUSED_LENT);
+    CHECK(vermolgas_packet(BYTES(0x84, 0x11), LENT, NULL, 0) == VERMOLGAS_REFUSED_LENT);
+    lent.block[0] = 5;
+    CHECK(send(BYTES(0x84, 0x11)) == VERMOLGAS_REFUSED_LENT);
+}
+
 static void read_packets(void)
 {
     uint64_t display = vermolgas_read(BYTES(0x04, 0x11, 0x01));
@@ -112,6 +189,9 @@ static void read_replies(void)
 
 int main(void)
 {
+    reset_controllers();
+    send_packets();
+    refuse_sent_packets();
     read_packets();
     refuse_packets();
     make_packets();

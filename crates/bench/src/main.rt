@@ -2,33 +2,33 @@
 use packet::Reading;
 
 fn main() {
-    show(b"");
-    show(b"\x24\x11");
-    show(b"\x04\x11\x01");
-    show(b"\x84\x11");
-    show(b"\x44\x11\x01");
-    show(b"\x0C\x11\x00\x01");
-    show(b"\x24\x11\x01\x36");
-    show(b"\x24\x11\x01\x37");
-    show(b"\x03\x11\x01");
-    show(b"\x14\x11\x02\x00\x01");
-    show(b"\x04\x11\x05");
-    show(b"\x04\x1A\x01");
-    show(b"\x04\x1A\x02");
-    show(b"\x04\x39\x01");
-    show(b"\x04\x39\x02");
-    show(b"\x04\x34\x00\x00\x08\x00\x10\x00");
-    show(b"\x14\x34\x02\x00\x00\x00");
-    show(b"\x14\x34\x06\x00\xBF\x07\x01\x00\x02\x00");
+    present(b"");
+    present(b"\x24\x11");
+    present(b"\x04\x11\x01");
+    present(b"\x84\x11");
+    present(b"\x44\x11\x01");
+    present(b"\x0C\x11\x00\x01");
+    present(b"\x24\x11\x01\x36");
+    present(b"\x24\x11\x01\x37");
+    present(b"\x03\x11\x01");
+    present(b"\x14\x11\x02\x00\x01");
+    present(b"\x04\x11\x05");
+    present(b"\x04\x1A\x01");
+    present(b"\x04\x1A\x02");
+    present(b"\x04\x39\x01");
+    present(b"\x04\x39\x02");
+    present(b"\x04\x34\x00\x00\x08\x00\x10\x00");
+    present(b"\x14\x34\x02\x00\x00\x00");
+    present(b"\x14\x34\x06\x00\xBF\x07\x01\x00\x02\x00");
     // Refusal 12 comes after reading, which takes this one.
-    show(b"\x14\x34\x06\x00\xC0\x07\x01\x00\x02\x00");
-    show(b"\x14\x2B\x08\x00\x00\x01\x01\x00\xDF\x07\x00\x14");
+    present(b"\x14\x34\x06\x00\xC0\x07\x01\x00\x02\x00");
+    present(b"\x14\x2B\x08\x00\x00\x01\x01\x00\xDF\x07\x00\x14");
 }
 
 // One packet: its bytes, what reading gives, and the bytes made again.
-fn show(bytes: &[u8]) {
+fn present(bytes: &[u8]) {
     io::write_all(1, b"packet");
-    print_bytes(bytes, bytes.len());
+    show::bytes(bytes, bytes.len());
     let r = packet::read(bytes);
     let Reading::Command {
         opcode,
@@ -49,7 +49,7 @@ fn show(bytes: &[u8]) {
     let made = packet::make(opcode as u16, options, &bytes[at..at + size], &mut buffer);
     print_number(b"\n  made again, status ", made.status as u64);
     io::write_all(1, b":");
-    print_bytes(&buffer, made.size);
+    show::bytes(&buffer, made.size);
     io::write_all(1, b"\n");
 }
 
@@ -74,21 +74,4 @@ fn print_byte(text: &[u8], b: u8) {
     io::write_all(1, text);
     io::print_hex(1, b as u64, 2);
     io::write_all(1, b"h");
-}
-
-// The first n bytes, in hexadecimal.
-fn print_bytes(s: &[u8], n: usize) {
-    let mut i = 0;
-    while i < n {
-        if s.len() <= i {
-            return;
-        }
-        print_one(s[i]);
-        i += 1;
-    }
-}
-
-fn print_one(b: u8) {
-    io::write_all(1, b" ");
-    io::print_hex(1, b as u64, 2);
 }

@@ -106,15 +106,15 @@ rows =
     ∷ row (0x14 ∷ 0x2B ∷ 0x08 ∷ 0x00 ∷ 0x00 ∷ 0x01 ∷ 0x01 ∷ 0x00 ∷ 0xDF ∷ 0x07 ∷ 0x00 ∷ 0x14 ∷ []) 0 [] (withGain 2015 5120)
     -- * Points 0 and 3 differ: two, 20 bytes.
     ∷ plans
-      (record {
-        held = 0 ∷ 0 ∷ 5 ∷ 6 ∷ 7 ∷ 8 ∷ 9 ∷ 0x10A ∷ [];
-        wanted = 1 ∷ 2 ∷ 5 ∷ 6 ∷ 7 ∷ 8 ∷ 9 ∷ 0x20B ∷ [];
-        parts = 0 ∷ 1 ∷ 3 ∷ 1 ∷ [];
-        bytes = 20;
-        batch =
+    (record {
+      held = 0 ∷ 0 ∷ 5 ∷ 6 ∷ 7 ∷ 8 ∷ 9 ∷ 0x10A ∷ [];
+      wanted = 1 ∷ 2 ∷ 5 ∷ 6 ∷ 7 ∷ 8 ∷ 9 ∷ 0x20B ∷ [];
+      parts = 0 ∷ 1 ∷ 3 ∷ 1 ∷ [];
+      bytes = 20;
+      batch =
           0x14 ∷ 0x34 ∷ 0x06 ∷ 0x00 ∷ 0x00 ∷ 0x00 ∷ 0x01 ∷ 0x00 ∷ 0x02 ∷ 0x00
           ∷ 0x14 ∷ 0x34 ∷ 0x06 ∷ 0x00 ∷ 0x03 ∷ 0x00 ∷ 0x09 ∷ 0x00 ∷ 0x0B ∷ 0x02 ∷ [];
-      })
+    })
     ∷ []
 
 abbrev pub sameList : List ℕ → List ℕ → Bool

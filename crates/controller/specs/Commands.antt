@@ -13,6 +13,7 @@ use Rattle.controller.specs.State.{State}
 
 -- ---- 2Bh gains: colour 1 red, 2 green, 3 blue, a third of the table each.
 
+-- "start + count ≤ 2,016": gains of one colour.
 abbrev pub third : ℕ
 third = 2016
 
@@ -91,7 +92,7 @@ blockAfter op d block =
     (cond (eqb op 0x35) (writeShape d block)
     (cond (eqb op 0x36) (applyBlock d block) (cond (eqb op 0x38) (writeSmooth d block) (stored op d block)))))
 
--- The state after an accepted write.
+-- The state after an accepted write. "Staged points keep their index": of 35h only the block changes.
 unfoldable pub written : ℕ → List ℕ → State → State
 written op d s =
     record {
@@ -113,6 +114,7 @@ dataBack op d s =
 -- ---- Refusal 12: "a start and count run past their table". 34h: "Both need start + count ≤ columns × rows as staged." 2Bh: "start +
 -- count ≤ 2,016".
 
+-- "004 says 1,984 and, for reading, 1,952; 1,984 decides": the bound is the shape's, at most 62 × 32.
 abbrev pub points : List ℕ → ℕ
 points block = columnsAt block stagedShape * rowsAt block stagedShape
 

@@ -2,3 +2,5 @@
 pub mod State
 pub mod Commands
 pub mod Step
+pub mod Demands
+pub mod Granted

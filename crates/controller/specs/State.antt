@@ -15,6 +15,9 @@ pub record State : Type 0 where
   pub live : List ℕ
   pub gains : List ℕ
 
+abbrev pub state : List ℕ → List ℕ → List ℕ → List ℕ → State
+state block staged live gains = record { block = block; staged = staged; live = live; gains = gains }
+
 -- "Lent lengths: block 1,024; staged and live 3,968 16-bit numbers each (x, y in turn); gains 6,048 (red, green, blue)".
 abbrev pub lengthsRight : State → Bool
 lengthsRight s =
@@ -28,6 +31,7 @@ lengthsRight s =
 unfoldable pub stopped : State → List ℕ → Bool
 stopped s reply = not (lengthsRight s && leb 512 (length reply)) || not (settingsRight (s .block))
 
+-- "Reset: .. It writes the whole block and all tables".
 abbrev pub resetState : State
 resetState = record { block = resetBlock; staged = resetMap; live = resetMap; gains = resetGains }
 
@@ -38,3 +42,6 @@ pub record ResetOut : Type 0 where
 
 unfoldable pub reset : State → ResetOut
 reset s = cond (lengthsRight s) (record { status = 0; state = resetState }) (record { status = 1; state = s })
+
+abbrev pub resetOut : ℕ → State → ResetOut
+resetOut status s = record { status = status; state = s }

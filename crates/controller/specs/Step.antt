@@ -8,7 +8,7 @@ use Rattle.wire.specs.First.{first}
 use Rattle.wire.specs.Buffers.{over}
 use Rattle.opcode.specs.Options.{hasSum, asksReply, isRead}
 use Rattle.packet.specs.Frame.{headerOf, opcodeOf, dataOf}
-use Rattle.packet.specs.Reading.{refusals}
+use Rattle.packet.specs.Reading.{Answer, refusals, answered}
 use Rattle.reply.specs.Reply.{replyBytes}
 use Rattle.controller.specs.State.{State, stopped}
 use Rattle.controller.specs.Commands.{written, dataBack, runsPast}
@@ -20,6 +20,10 @@ reads p = eqb (isRead (headerOf p)) 1
 abbrev pub readAndPlaced : List ℕ → List ℕ → List (ℕ × Bool)
 readAndPlaced p block = refusals p ++ ((12, runsPast (opcodeOf p) (reads p) (dataOf p) block) ∷ [])
 
+-- The decision on a packet that refusal 1 does not stop: refusals 2 to 12, or the command.
+unfoldable pub decision : List ℕ → List ℕ → Answer
+decision p block = answered (first (readAndPlaced p block)) p
+
 -- Refusals 1 to 12, tried in this order.
 abbrev pub stepRefusals : List ℕ → State → List ℕ → List (ℕ × Bool)
 stepRefusals p s reply = (1, stopped s reply) ∷ readAndPlaced p (s .block)
@@ -27,13 +31,17 @@ stepRefusals p s reply = (1, stopped s reply) ∷ readAndPlaced p (s .block)
 unfoldable pub numberOf : List ℕ → State → List ℕ → ℕ
 numberOf p s reply = first (stepRefusals p s reply)
 
--- "A reply is written exactly if the packet has a first byte, bit 7 or bit 6 is set, and the refusal isn't 1."
+-- "Bit 6 of a read has no further effect." "A reply is written exactly if the packet has a first byte, bit 7 or bit 6 is set, and the refusal isn't 1."
 abbrev pub answers : ℕ → List ℕ → Bool
 answers number p = ltb 0 (length p) && (reads p || eqb (asksReply (headerOf p)) 1) && not (eqb number 1)
 
 -- "An accepted write and a refusal both carry no data."
 abbrev pub replyData : ℕ → List ℕ → State → List ℕ
 replyData number p s = cond (eqb number 0 && reads p) (dataBack (opcodeOf p) (dataOf p) s) []
+
+-- The reply of a refusal, or of a write that was accepted.
+unfoldable pub emptyReply : ℕ → List ℕ → List ℕ
+emptyReply number p = cond (answers number p) (replyBytes (eqb (hasSum (headerOf p)) 1) number []) []
 
 -- The reply's bytes, none where none is written.
 unfoldable pub replyTo : ℕ → List ℕ → State → List ℕ
@@ -50,6 +58,9 @@ pub record Out : Type 0 where
   pub size : ℕ
   pub state : State
   pub reply : List ℕ
+
+abbrev pub out : ℕ → ℕ → State → List ℕ → Out
+out status size s reply = record { status = status; size = size; state = s; reply = reply }
 
 abbrev pub outOf : ℕ → List ℕ → State → List ℕ → Out
 outOf number p s reply =

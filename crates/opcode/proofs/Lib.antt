@@ -1,4 +1,5 @@
 pub mod Table
+pub mod Arms
 pub mod Rows
 pub mod Laws
 pub mod Judging

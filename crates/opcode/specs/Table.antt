@@ -5,6 +5,7 @@ use mathlib.Core.List.{List, [], _∷_}
 use lib.ListN.{take, drop}
 use Rattle.opcode.specs.declared.Field.{Field}
 use Rattle.opcode.specs.declared.Row.{Row}
+use Rattle.opcode.specs.declared.Runs.{Runs}
 use Rattle.opcode.specs.Fields.{from-to-but}
 use Rattle.opcode.specs.Commands.{Command}
 
@@ -12,7 +13,7 @@ use Rattle.opcode.specs.Commands.{Command}
 abbrev pub noField : Field
 noField = from-to-but 0 0 0 0 0
 
--- The code's FIELDS: size, low, high, gap, past.
+-- The fields of every command, each command's in packet order: size, low, high, gap, past.
 unfoldable pub fieldList : List Field
 fieldList =
     from-to-but 1 0 4 0 0
@@ -62,19 +63,19 @@ fieldList =
 abbrev pub fieldsFrom : ℕ → ℕ → List Field
 fieldsFrom first count = take count (drop first fieldList)
 
--- Two hexadecimal digits for each part, the first the highest.
-abbrev pub unpackedRow : ℕ → Row
-unpackedRow x =
-    record {
-      mark = x / 72057594037927936 % 256;
-      write = x / 281474976710656 % 256;
-      read = x / 1099511627776 % 256;
-      back = x / 4294967296 % 256;
-      sets = x / 16777216 % 256;
-      «sets_count» = x / 65536 % 256;
-      asks = x / 256 % 256;
-      «asks_count» = x % 256;
-    }
+-- A packed row has the command's mark and sizes, a hexadecimal digit each, the first the highest.
+pub record Sized (x : ℕ) (c : Command) : Type 0 where
+  pub mark : x / 4096 % 16 ≡ c .mark
+  pub write : x / 256 % 16 ≡ c .write
+  pub read : x / 16 % 16 ≡ c .read
+  pub back : x % 16 ≡ c .back
+
+-- Runs of fields, the place and the count of a write's and then of a read's, are the command's.
+pub record Placed (r : Runs) (c : Command) : Type 0 where
+  pub sets : fieldsFrom (r .0) (r .1) ≡ c .sets
+  pub asks : fieldsFrom (r .2) (r .3) ≡ c .asks
+  pub sets-within : r .0 + r .1 ≤ 41
+  pub asks-within : r .2 + r .3 ≤ 41
 
 -- A row says of its command what the list of commands says. Where its fields stand in the list of all fields is left free: a field of one
 -- range may stand there more than once, and a run of no fields stands anywhere; what holds is that the run is the command's fields.

@@ -24,7 +24,8 @@ at op first = record { opcode = op; first = first; step = 0 }
 abbrev pub eachAt : ℕ → ℕ → ℕ → Place
 eachAt op first step = record { opcode = op; first = first; step = step }
 
--- 60h stores direction, level and drain for each pin. "60h and 61h share one level per pin".
+-- 60h stores direction, level and drain for each pin. "60h and 61h share one level per pin; a level is stored whatever the direction
+-- (house)."
 abbrev pub places : List Place
 places =
     at 0x11 0
@@ -47,7 +48,7 @@ abbrev pub placeIn : ℕ → List Place → Place
 placeIn op [] = at 0 0
 placeIn op (p ∷ ps) = cond (eqb op (p .opcode)) p (placeIn op ps)
 
--- Ports 0-10 and then 13 of 65h; else the pin or port itself.
+-- "65h takes ports 0-10 and 13": 13 stands behind 10. Else the pin or port itself.
 abbrev pub slot : ℕ → ℕ → ℕ
 slot op port = cond (eqb op 0x65) (cond (eqb port 13) 11 port) port
 
@@ -82,7 +83,8 @@ columnsAt block shape = wordAt block (shape + 1)
 abbrev pub rowsAt : List ℕ → ℕ → ℕ
 rowsAt block shape = wordAt block (shape + 3)
 
--- A fixed write moves its data, without the pin or port byte that a read sends too, to its place; a read returns what stands there.
+-- A fixed write moves its data, without the pin or port byte that a read sends too, to its place; a read returns what stands there: "same",
+-- "the last three, for the pin sent", "level", "all but the port", "the last ten". "Packets leave block bytes without a meaning unchanged."
 abbrev pub stored : ℕ → List ℕ → List ℕ → List ℕ
 stored op d block = paste block (placeOf op d) (drop (commandOf op .read) d) (commandOf op .back)
 

@@ -2,3 +2,4 @@
 pub mod Layout
 pub mod Ranges
 pub mod Reset
+pub mod Spread

@@ -49,6 +49,7 @@ shapeRight block shape =
     && (eqb (modeAt block shape) 0 || (eqb (columnsAt block shape) 62 && eqb (rowsAt block shape) 32)))
     && (rising block (shape + 5) 62 && rising block (shape + 129) 32)
 
+-- Every stored field in its range. Bytes without a meaning are not judged.
 unfoldable pub settingsRight : List ℕ → Bool
 settingsRight block =
     right pictureFields block 0

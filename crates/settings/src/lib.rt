@@ -1,1 +1,231 @@
-// The settings block: what its bytes mean, which values they may have, and what they are after reset (see specs/).
+// The settings block: where a command's settings stand, whether every setting lies in its range, and reset.
+ghost use mathlib.Core.Path.{_≡_};
+ghost use mathlib.Core.Bool.{_&&_, _||_};
+ghost use Prim.Native.Nat.{ℕ, _+_, _*_, _≤_, _<_};
+ghost use lib.Dec.{eqb, leb};
+ghost use lib.ListN.{length};
+ghost use Rattle.wire.specs.Numbers.{byteAt};
+ghost use Rattle.opcode.specs.Fields.{from-to, takes};
+ghost use Rattle.settings.specs.Layout.{slot, placeOf, modeAt, columnsAt, rowsAt};
+ghost use Rattle.settings.specs.Ranges.{right, behindPort, forEach, pictureFields, deviceFields, shapeRight, settingsRight};
+ghost use Rattle.settings.specs.Reset.{resetBlock};
+ghost use Rattle.settings.specs.Spread.{spreadOver, shapeOver};
+
+// Whether every stored setting, staged and live, lies in its range. The bytes past them are not judged. Every packet asks this, so
+// the parts are judged without branches, each joined to what those before it came to.
+pub fn in_range(block: &[u8]) -> bool
+    requires { ⌜ length (now block) ≡ 1024 ⌝ }
+    ensures { λ r. ⌜ r ≡ settingsRight (now (block .entry)) ⌝ }
+{
+    let fine = picture_in_range(block);
+    let fine = both(fine, shape_in_range(block, 8));
+    let fine = up_to(fine, block, 201, 1);
+    let fine = both(fine, shape_in_range(block, 202));
+    let fine = within(fine, wire::byte(block, 395), 3, 5);
+    let fine = within(fine, wire::byte(block, 396), 3, 5);
+    device_in_range(fine, block)
+}
+
+// 11h to 1Dh. Any look and any splash is right.
+fn picture_in_range(block: &[u8]) -> bool
+    requires { ⌜ length (now block) ≡ 1024 ⌝ }
+    ensures { λ r. ⌜ r ≡ right pictureFields (now (block .entry)) 0 ⌝ }
+{
+    let fine = up_to(true, block, 0, 4);
+    let fine = up_to(fine, block, 1, 1);
+    // Colour 0, 2-8.
+    let fine = up_to(fine, block, 4, 8);
+    let fine = both(fine, block[4] != 1);
+    let fine = up_to(fine, block, 6, 3);
+    up_to(fine, block, 7, 1)
+}
+
+// The shape rule, of the shape at a place.
+pub fn shape_in_range(block: &[u8], shape: usize) -> bool
+    requires { ⌜ shape ≤ 1024 ⌝ }
+    ensures { λ r. ⌜ r ≡ shapeRight (now (block .entry)) shape ⌝ }
+{
+    let fine = within(true, wire::byte(block, shape), 0, 1);
+    let fine = within(fine, wire::word(block, shape + 1), 2, 62);
+    let fine = within(fine, wire::word(block, shape + 3), 2, 32);
+    let fine = both(fine, counts_in_mode(block, shape));
+    let fine = both(fine, opcode::rise(block, shape + 5, 62) == 62);
+    both(fine, opcode::rise(block, shape + 129, 32) == 32)
+}
+
+// "in mode 1 any shape but 62 × 32"
+fn counts_in_mode(block: &[u8], shape: usize) -> bool
+    requires { ⌜ shape ≤ 1024 ⌝ }
+    ensures { λ r. ⌜ r ≡ (eqb (modeAt (now (block .entry)) shape) 0
+        || (eqb (columnsAt (now (block .entry)) shape) 62 && eqb (rowsAt (now (block .entry)) shape) 32)) ⌝ }
+{
+    if wire::byte(block, shape) == 0 {
+        return true;
+    }
+    if wire::word(block, shape + 1) != 62 {
+        return false;
+    }
+    wire::word(block, shape + 3) == 32
+}
+
+// Update mode, pins, PWM ports, lock and UART ports, from place 497 on.
+fn device_in_range(fine: bool, block: &[u8]) -> bool
+    requires { ⌜ length (now block) ≡ 1024 ⌝ }
+    ensures { λ r. ⌜ r ≡ (fine && right deviceFields (now (block .entry)) 497) ⌝ }
+{
+    let fine = up_to(fine, block, 497, 0);
+    let fine = pins_in_range(fine, block);
+    let fine = pwm_in_range(fine, block);
+    let fine = up_to(fine, block, 834, 1);
+    let fine = uart_port_in_range(fine, block, 835);
+    let fine = uart_port_in_range(fine, block, 845);
+    uart_port_in_range(fine, block, 855)
+}
+
+// 88 pins of direction, level and drain: 264 bytes, each 0 or 1.
+fn pins_in_range(fine: bool, block: &[u8]) -> bool
+    requires { ⌜ length (now block) ≡ 1024 ⌝ }
+    ensures { λ r. ⌜ r ≡ (fine && right (forEach 88 (behindPort 0x60)) (now (block .entry)) 498) ⌝ }
+{
+    let mut all = fine;
+    let mut i = 0;
+    while i < 264 {
+        all = up_to(all, block, 498 + i, 1);
+        i += 1;
+    }
+    all
+}
+
+// 12 PWM ports.
+fn pwm_in_range(fine: bool, block: &[u8]) -> bool
+    requires { ⌜ length (now block) ≡ 1024 ⌝ }
+    ensures { λ r. ⌜ r ≡ (fine && right (forEach 12 (behindPort 0x65)) (now (block .entry)) 762) ⌝ }
+{
+    let mut all = fine;
+    let mut i = 0;
+    while i < 12 {
+        all = pwm_port_in_range(all, block, 762 + 6 * i);
+        i += 1;
+    }
+    all
+}
+
+// Frequency, duty, on.
+fn pwm_port_in_range(fine: bool, block: &[u8], at: usize) -> bool
+    requires { ⌜ at + 6 ≤ length (now block) ⌝ }
+    ensures { λ r. ⌜ r ≡ (fine && right (behindPort 0x65) (now (block .entry)) at) ⌝ }
+{
+    let fine = within(fine, wire::long(block, at), 20, 10_390_000);
+    let fine = up_to(fine, block, at + 4, 100);
+    up_to(fine, block, at + 5, 1)
+}
+
+// On, baud, bits, stop, parity, flow, two triggers, polarity, source.
+fn uart_port_in_range(fine: bool, block: &[u8], at: usize) -> bool
+    requires { ⌜ at + 10 ≤ length (now block) ⌝ }
+    ensures { λ r. ⌜ r ≡ (fine && right (behindPort 0x6D) (now (block .entry)) at) ⌝ }
+{
+    let fine = up_to(fine, block, at, 1);
+    let fine = up_to(fine, block, at + 1, 11);
+    let fine = up_to(fine, block, at + 2, 3);
+    let fine = up_to(fine, block, at + 3, 1);
+    let fine = up_to(fine, block, at + 4, 2);
+    let fine = up_to(fine, block, at + 5, 1);
+    let fine = up_to(fine, block, at + 6, 4);
+    let fine = up_to(fine, block, at + 7, 4);
+    let fine = up_to(fine, block, at + 8, 1);
+    up_to(fine, block, at + 9, 1)
+}
+
+// Joined to what came before: the byte at a place is at most high.
+fn up_to(fine: bool, block: &[u8], at: usize, high: u8) -> bool
+    requires { ⌜ at < length (now block) ⌝ }
+    ensures { λ r. ⌜ r ≡ (fine && leb (byteAt (now (block .entry)) at) high) ⌝ }
+{
+    if block[at] <= high { fine } else { false }
+}
+
+// Joined to what came before: a number lies from low to high.
+fn within(fine: bool, v: usize, low: usize, high: usize) -> bool
+    ensures { λ r. ⌜ r ≡ (fine && takes (from-to 1 low high) v) ⌝ }
+{
+    if v < low {
+        return false;
+    }
+    if high < v {
+        return false;
+    }
+    fine
+}
+
+fn both(a: bool, b: bool) -> bool
+    ensures { λ r. ⌜ r ≡ (a && b) ⌝ }
+{
+    if a { b } else { false }
+}
+
+// The place of what a fixed command stores, from its data.
+pub fn place_of(opcode: usize, data: &[u8]) -> usize
+    ensures { λ r. ⌜ (r ≡ placeOf opcode (now («data» .entry))) × (r ≤ 4096) ⌝ }
+{
+    let port = wire::byte(data, 0);
+    match opcode {
+        0x12 => 1,
+        0x13 => 2,
+        0x1A => 4,
+        0x1B => 5,
+        0x1C => 6,
+        0x1D => 7,
+        0x36 => 201,
+        0x39 => 497,
+        0x60 => 498 + 3 * port,
+        0x61 => 499 + 3 * port,
+        0x65 => 762 + 6 * slot_of(port),
+        0x6C => 834,
+        0x6D => 835 + 10 * port,
+        _ => 0,
+    }
+}
+
+// Ports 0-10 and then 13.
+fn slot_of(port: usize) -> usize
+    requires { ⌜ port < 256 ⌝ }
+    ensures { λ r. ⌜ (r ≡ slot 0x65 port) × (r < 256) ⌝ }
+{
+    if port == 13 { 11 } else { port }
+}
+
+// The whole block as it is after reset: zeros, and over them the two shapes, the smooth table's counts and the PWM frequencies.
+pub fn reset_block(block: &mut [u8])
+    requires { ⌜ length (now block) ≡ 1024 ⌝ }
+    ensures { λ _. ⌜ now (block .exit) ≡ resetBlock ⌝ }
+{
+    spread(block, 0, 1, 0, 0, 1024);
+    reset_shape(block, 8);
+    reset_shape(block, 202);
+    spread(block, 395, 1, 3, 0, 2);
+    spread(block, 762, 6, 20, 0, 12);
+}
+
+// 62 columns, 32 rows, lists 0, 1, 2 and so on, where zeros stand.
+fn reset_shape(block: &mut [u8], shape: usize)
+    requires { ⌜ shape + 193 ≤ length (now block) ⌝ }
+    ensures { λ _. ⌜ now (block .exit) ≡ shapeOver (now (block .entry)) shape ⌝ }
+{
+    spread(block, shape + 1, 1, 62, 0, 1);
+    spread(block, shape + 3, 1, 32, 0, 1);
+    spread(block, shape + 5, 2, 0, 1, 62);
+    spread(block, shape + 129, 2, 0, 1, 32);
+}
+
+// Stores n bytes, from a place on and step places apart: v, and each next one more by up.
+fn spread(block: &mut [u8], place: usize, step: usize, v: usize, up: usize, n: usize)
+    requires { ⌜ ((k : ℕ) → k < n → (place + step * k < length (now block)) × (v + up * k < 256)) ⌝ }
+    ensures { λ _. ⌜ now (block .exit) ≡ spreadOver (now (block .entry)) place step v up n ⌝ }
+{
+    let mut i = 0;
+    while i < n {
+        block[place + step * i] = (v + up * i) as u8;
+        i += 1;
+    }
+}

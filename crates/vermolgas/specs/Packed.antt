@@ -1,8 +1,10 @@
 -- "exported extern "C" entries .. return a status and length packed in a number". Every answer is 64 bits; docs/INTERFACE.md has the table.
 use Prim.Native.Nat.{ℕ, _+_, _*_}
+use mathlib.Core.List.{List}
 use Rattle.packet.specs.Reading.{Answer}
 use Rattle.packet.specs.Making.{Made}
 use Rattle.reply.specs.Reading.{ReplyAnswer}
+use Rattle.controller8.specs.Bytes.{Lent, LentOut}
 
 -- The refusal in bits 0-7; opcode in 8-15, header bits 3-7 in place in 16-23, offset of the data in 24-31, data length from 32 on. An answer
 -- that is a refusal has 0 in all of these.
@@ -17,3 +19,15 @@ packedMade m = m .status + 256 * m .size
 -- The refusal in bits 0-7, the reply's status in 8-15, its data length from 16 on; the data is at offset 3.
 abbrev pub packedReply : ReplyAnswer → ℕ
 packedReply r = r .number + 256 * r .status + 65536 * r .size
+
+-- One packet on a state: status in bits 0-7, the reply's length from 8 on; and every lent list as it is left.
+pub record PackedOut : Type 0 where
+  pub answer : ℕ
+  pub lent : Lent
+  pub reply : List ℕ
+
+abbrev pub packedOut : ℕ → Lent → List ℕ → PackedOut
+packedOut answer l reply = record { answer = answer; lent = l; reply = reply }
+
+abbrev pub packedStep : LentOut → PackedOut
+packedStep o = packedOut (o .status + 256 * o .size) (o .lent) (o .reply)

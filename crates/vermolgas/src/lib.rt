@@ -7,7 +7,39 @@ ghost use lib.Dec.{eqb};
 ghost use Rattle.packet.specs.Reading.{answer, reading};
 ghost use Rattle.packet.specs.Making.{made};
 ghost use Rattle.reply.specs.Reading.{«answer» as replyAnswer, replyReading};
-ghost use Rattle.vermolgas.specs.Packed.{packedReading, packedMade, packedReply};
+ghost use Rattle.controller8.specs.Bytes.{lent, stepBytes, lentReset, resetBytes};
+ghost use Rattle.vermolgas.specs.Packed.{packedReading, packedMade, packedReply, packedOut, packedStep};
+
+// Puts the block and all tables as they are after reset. The status is 0, or 1 for a wrong length.
+#[no_mangle]
+pub extern "C" fn vermolgas_reset(
+    block: &mut [u8],
+    staged: &mut [u8],
+    live: &mut [u8],
+    gains: &mut [u8],
+) -> u64
+    ensures { λ r. ⌜ lentReset r (lent (now (block .exit)) (now (staged .exit)) (now (live .exit)) (now (gains .exit)))
+        ≡ resetBytes (lent (now (block .entry)) (now (staged .entry)) (now (live .entry)) (now (gains .entry))) ⌝ }
+{
+    controller8::reset(block, staged, live, gains) as u64
+}
+
+// One packet on a state, with the reply that it asks for.
+#[no_mangle]
+pub extern "C" fn vermolgas_packet(
+    packet: &[u8],
+    block: &mut [u8],
+    staged: &mut [u8],
+    live: &mut [u8],
+    gains: &mut [u8],
+    reply: &mut [u8],
+) -> u64
+    ensures { λ r. ⌜ packedOut r (lent (now (block .exit)) (now (staged .exit)) (now (live .exit)) (now (gains .exit))) (now (reply .exit))
+        ≡ packedStep (stepBytes (now (packet .entry)) (lent (now (block .entry)) (now (staged .entry)) (now (live .entry)) (now (gains .entry))) (now (reply .entry))) ⌝ }
+{
+    let o = controller8::handle(packet, block, staged, live, gains, reply);
+    o.status as u64 + 256 * o.size as u64
+}
 
 // Reads a packet.
 #[no_mangle]

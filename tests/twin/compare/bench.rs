@@ -1,21 +1,14 @@
 //! Holds the library's answers and buffers against the twin's, and counts what was compared.
 
-use twin::command::{Direction, Opcode};
+use twin::command::Opcode;
 use twin::packet::{self, Header, Reading};
 use twin::refusal::Refusal;
 use twin::reply::{self, Reply};
 
-use crate::library;
+use crate::counts::{Accepted, Refused};
+use crate::library::LIBRARY;
 use crate::random::Random;
-
-/// How often each opcode, direction and set of the four options was accepted.
-pub type Accepted = [[[u64; 16]; 2]; Opcode::ALL.len()];
-
-/// How often each refusal was given, at the index of its number.
-pub type Refused = [u64; 13];
-
-/// Mismatches of a group that are shown.
-const SHOWN: u64 = 5;
+use crate::report::{hex, Report};
 
 /// Bytes before and behind a lent buffer that must stay as they are.
 const GUARD: usize = 16;
@@ -25,7 +18,6 @@ pub const LARGEST_ROOM: usize = 70_000;
 
 #[derive(Default)]
 pub struct Counts {
-    pub inputs: u64,
     pub read_accepted: Accepted,
     pub read_refused: Refused,
     pub make_accepted: Accepted,
@@ -38,80 +30,42 @@ pub struct Counts {
 pub struct Bench {
     pub random: Random,
     pub counts: Counts,
-    seed: u64,
+    pub report: Report,
     /// What lent buffers hold before a call.
     filling: Vec<u8>,
-    mismatches: u64,
-    passed: u64,
-    failed: u64,
 }
 
 impl Bench {
-    pub fn new(seed: u64) -> Self {
-        Bench {
-            random: Random::new(seed),
-            counts: Counts::default(),
-            seed,
-            filling: Random::new(!seed).bytes(2 * LARGEST_ROOM),
-            mismatches: 0,
-            passed: 0,
-            failed: 0,
-        }
+    pub fn new(report: Report) -> Self {
+        let mut random = report.shared_random();
+        let filling = random.bytes(2 * LARGEST_ROOM);
+        Bench { random, counts: Counts::default(), report, filling }
     }
 
-    /// Runs a group of comparisons, with random numbers of its own, and prints its line.
+    /// Runs a group of comparisons and prints its line.
     pub fn group(&mut self, name: &str, run: impl FnOnce(&mut Bench)) {
-        let before = self.counts.inputs;
-        self.random = Random::new(self.seed.wrapping_add(self.passed + self.failed));
-        self.mismatches = 0;
+        self.random = self.report.start_group();
         run(self);
-        let inputs = self.counts.inputs - before;
-        match self.mismatches {
-            0 => self.close(name, true, &format!("{inputs} inputs")),
-            mismatches => self.close(name, false, &format!("{mismatches} mismatches in {inputs} inputs")),
-        }
+        self.report.end_group(name);
     }
 
-    /// Prints the line of a group or of a check on the counts.
-    pub fn close(&mut self, name: &str, ok: bool, said: &str) {
-        if ok {
-            self.passed += 1;
-            println!("ok {name}: {said}");
-        } else {
-            self.failed += 1;
-            println!("FAILED {name}: {said}");
-        }
-    }
-
-    /// Prints the closing line, and says whether all passed.
-    pub fn finish(&self) -> bool {
-        println!("{} passed, {} failed", self.passed, self.failed);
-        self.failed == 0
-    }
-
-    /// Counts a mismatch unless `holds`, and shows the first few.
     pub fn expect(&mut self, holds: bool, what: impl FnOnce() -> String) {
-        if !holds {
-            self.mismatches += 1;
-            if self.mismatches <= SHOWN {
-                println!("  {}", what());
-            }
-        }
+        self.report.expect(holds, what);
     }
 
     /// `vermolgas_read` on a packet. One that is accepted is made again from its reading, and must
     /// come out the same.
     pub fn read(&mut self, packet: &[u8]) {
-        self.counts.inputs += 1;
+        self.report.inputs += 1;
         let expected = packet::read(packet);
-        let (answer, due) = (library::read(packet), read_answer(&expected));
+        let (answer, due) = (LIBRARY.read(packet), read_answer(&expected));
         self.expect(answer == due, || format!("read gives {answer:#x}, not {due:#x}: {}", hex(packet)));
         match &expected {
             Ok(reading) => {
-                tally(&mut self.counts.read_accepted, reading.command.opcode(), reading.header());
+                self.counts.read_accepted.count(reading.command.opcode(), reading.header());
                 self.make_again(packet, answer);
             }
-            Err(refusal) => self.counts.read_refused[usize::from(refusal.number())] += 1,
+            Err(refusal) => self.counts.read_refused.count(refusal.number()),
         }
     }
 
@@ -124,7 +78,7 @@ impl Bench {
                 .expect(false, || format!("read gives a place outside: {answer:#x}, {}", hex(packet)));
         };
         let mut buffer = [0xAA; 512];
-        let made = library::make(opcode as u16, options as u8, data, &mut buffer);
+        let made = LIBRARY.make(opcode as u16, options as u8, data, &mut buffer);
         let (head, rest) = buffer.split_at(packet.len());
         let same =
             made == make_answer(&Ok(packet.len())) && head == packet && rest.iter().all(|b| *b == 0xAA);
@@ -134,14 +88,14 @@ impl Bench {
     /// `vermolgas_make` with a buffer of `room` bytes. A packet made is read back, and must give
     /// what it was made from.
     pub fn make(&mut self, opcode: u16, options: u8, data: &[u8], room: usize) {
-        self.counts.inputs += 1;
+        self.report.inputs += 1;
         let start = self.random.below(LARGEST_ROOM - 2 * GUARD);
         let mut due_bytes = self.filling[start..start + room + 2 * GUARD].to_vec();
         let mut bytes = due_bytes.clone();
         let lent = GUARD..GUARD + room;
         let header = Header::from_byte(options);
         let expected = packet::make(header, opcode, data, &mut due_bytes[lent.clone()]);
-        let answer = library::make(opcode, options, data, &mut bytes[lent.clone()]);
+        let answer = LIBRARY.make(opcode, options, data, &mut bytes[lent.clone()]);
         let due = make_answer(&expected);
         let input = || format!("opcode {opcode:#x}, options {options:#x}, room {room}, data {}", hex(data));
         self.expect(answer == due, || format!("make gives {answer:#x}, not {due:#x}: {}", input()));
@@ -151,24 +105,24 @@ impl Bench {
         match expected {
             Ok(length) => {
                 let opcode = Opcode::find(opcode).expect("only opcodes carried are accepted");
-                tally(&mut self.counts.make_accepted, opcode, header);
+                self.counts.make_accepted.count(opcode, header);
                 let packet = &bytes[lent][..length];
                 let place = header.options.data_offset();
                 let due = read_fields(opcode.number(), options & 0xF8, place, data.len());
-                let answer = library::read(packet);
+                let answer = LIBRARY.read(packet);
                 self.expect(answer == due, || format!("read back as {answer:#x}, not {due:#x}: {}", input()));
                 self.expect(packet[place..].starts_with(data), || format!("made of other data: {}", input()));
             }
-            Err(refusal) => self.counts.make_refused[usize::from(refusal.number())] += 1,
+            Err(refusal) => self.counts.make_refused.count(refusal.number()),
         }
     }
 
     /// `vermolgas_read_reply`; any number but 0 expects a checksum.
     pub fn read_reply(&mut self, bytes: &[u8], checksum_expected: u8) {
-        self.counts.inputs += 1;
+        self.report.inputs += 1;
         let with_checksum = checksum_expected != 0;
         let expected = reply::read(bytes, with_checksum);
-        let (answer, due) = (library::read_reply(bytes, checksum_expected), reply_answer(&expected));
+        let (answer, due) = (LIBRARY.read_reply(bytes, checksum_expected), reply_answer(&expected));
         self.expect(answer == due, || {
             let input = hex(bytes);
             format!("read_reply gives {answer:#x}, not {due:#x}: checksum {checksum_expected}, {input}")
@@ -178,16 +132,9 @@ impl Bench {
                 let count = &mut self.counts.reply_accepted[usize::from(reply.status)];
                 count[usize::from(with_checksum)] += 1;
             }
-            Err(refusal) => self.counts.reply_refused[usize::from(refusal.number())] += 1,
+            Err(refusal) => self.counts.reply_refused.count(refusal.number()),
         }
     }
-}
-
-/// Counts an accepted packet.
-fn tally(accepted: &mut Accepted, opcode: Opcode, header: Header) {
-    let index = Opcode::ALL.iter().position(|listed| *listed == opcode).expect("all are listed");
-    let set = header.byte() >> 3 & 0xF;
-    accepted[index][usize::from(header.direction == Direction::Read)][usize::from(set)] += 1;
 }
 
 /// The fields of `vermolgas_read`'s answer: opcode, header bits 3 to 7, place of the data.
@@ -221,11 +168,4 @@ pub fn reply_answer(reply: &Result<Reply, Refusal>) -> u64 {
         Ok(reply) => u64::from(reply.status) << 8 | (reply.data.len() as u64) << 16,
         Err(refusal) => refusal.number().into(),
     }
-}
-
-/// Bytes in hex, the first 80 of a longer input.
-fn hex(bytes: &[u8]) -> String {
-    let shown: Vec<String> = bytes.iter().take(80).map(|byte| format!("{byte:02X}")).collect();
-    let rest = if bytes.len() > 80 { " ..." } else { "" };
-    format!("[{}{rest}] ({} bytes)", shown.join(" "), bytes.len())
 }

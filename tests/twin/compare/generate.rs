@@ -1,22 +1,25 @@
-//! Commands with values inside their ranges, at the limits half of the time.
+//! The data of commands, its values inside their ranges, at the limits half of the time.
 
 use std::collections::BTreeSet;
+use std::ops::Range;
 
-use twin::command::{Colour, Command, Direction, Opcode, Read, Target, Write};
+use twin::command::{Colour, Direction, Opcode, Read, Target, Write};
+use twin::fields::Word;
 use twin::settings::{ControlPoints, Lists, Pin, Point, Pwm, Uart, PWM_PORTS};
 
 use crate::random::Random;
 
-/// A command of this opcode and direction, its data at most `room` bytes.
-pub fn command(random: &mut Random, opcode: Opcode, direction: Direction, room: usize) -> Command {
+/// The data of a command of this opcode and direction, at most `room` bytes.
+pub fn data(random: &mut Random, opcode: Opcode, direction: Direction, room: usize) -> Vec<u8> {
     match direction {
-        Direction::Write => Command::Write(write(random, opcode, room)),
-        Direction::Read => Command::Read(read(random, opcode)),
+        Direction::Write => write(random, opcode, room),
+        Direction::Read => read(random, opcode).data(),
     }
 }
 
-fn write(random: &mut Random, opcode: Opcode, room: usize) -> Write {
-    match opcode {
+fn write(random: &mut Random, opcode: Opcode, room: usize) -> Vec<u8> {
+    let (words, points, lists): (Vec<Word>, Vec<Point>, Lists);
+    let write = match opcode {
         Opcode::Display => Write::Display(random.byte_within(0..=4)),
         Opcode::LowLatency => Write::LowLatency(random.flag()),
         Opcode::Look => Write::Look(random.word()),
@@ -24,27 +27,31 @@ fn write(random: &mut Random, opcode: Opcode, room: usize) -> Write {
         Opcode::SplashImage => Write::SplashImage(random.byte()),
         Opcode::Flip => Write::Flip(random.byte_within(0..=3)),
         Opcode::Freeze => Write::Freeze(random.flag()),
-        Opcode::Gains => Write::Gains {
-            target: random.pick(&[
-                Target::All,
-                Target::One(Colour::Red),
-                Target::One(Colour::Green),
-                Target::One(Colour::Blue),
-            ]),
-            start: random.word(),
-            words: (0..count(random, (room - 6) / 2)).map(|_| random.word_within(0..=8191)).collect(),
-        },
-        Opcode::Map => Write::Map { start: random.word(), points: points(random, (room - 2) / 4) },
-        Opcode::ControlPoints => Write::ControlPoints(if random.flag() && room >= 189 {
-            ControlPoints::Listed(Lists { columns: rising(random), rows: rising(random) })
-        } else {
-            ControlPoints::Even { columns: random.word_within(2..=62), rows: random.word_within(2..=32) }
-        }),
+        Opcode::Gains => {
+            let count = count(random, (room - 6) / 2);
+            words = (0..count).map(|_| random.word_within(0..=8191).to_le_bytes()).collect();
+            let one = Target::One(random.pick(&Colour::ALL));
+            let target = random.pick(&[Target::All, one, one, one]);
+            Write::Gains { target, start: random.word(), words: &words }
+        }
+        Opcode::Map => {
+            let count = count(random, (room - 2) / 4);
+            points = (0..count).map(|_| point(random)).collect();
+            Write::Map { start: random.word(), points: &points }
+        }
+        Opcode::ControlPoints if room >= 189 && random.flag() => {
+            lists = rising_lists(random);
+            Write::ControlPoints(ControlPoints::Listed(&lists))
+        }
+        Opcode::ControlPoints => {
+            let (columns, rows) = (random.word_within(2..=62), random.word_within(2..=32));
+            Write::ControlPoints(ControlPoints::Even { columns, rows })
+        }
         Opcode::Apply => Write::Apply(random.flag()),
         Opcode::SmoothTable => {
             let (columns, rows) = (random.byte_within(3..=5), random.byte_within(3..=5));
-            let points = (0..columns * rows).map(|_| point(random)).collect();
-            Write::SmoothTable { columns, rows, points }
+            points = (0..columns * rows).map(|_| point(random)).collect();
+            Write::SmoothTable { columns, rows, points: &points }
         }
         Opcode::UpdateMode => Write::UpdateMode,
         Opcode::Pin => Write::Pin {
@@ -75,7 +82,8 @@ fn write(random: &mut Random, opcode: Opcode, room: usize) -> Write {
                 source: random.flag(),
             },
         },
-    }
+    };
+    write.data()
 }
 
 fn read(random: &mut Random, opcode: Opcode) -> Read {
@@ -105,6 +113,16 @@ fn read(random: &mut Random, opcode: Opcode) -> Read {
     }
 }
 
+/// Where the data of this command has its start, if it has one.
+pub fn start_place(opcode: Opcode, direction: Direction) -> Option<Range<usize>> {
+    match (opcode, direction) {
+        (Opcode::Map, _) => Some(0..2),
+        (Opcode::Gains, Direction::Write) => Some(4..6),
+        (Opcode::Gains, Direction::Read) => Some(1..3),
+        _ => None,
+    }
+}
+
 /// From 1 to `most`, small numbers more often.
 fn count(random: &mut Random, most: usize) -> usize {
     let most = if random.below(3) == 0 { most } else { most.min(8) };
@@ -112,11 +130,15 @@ fn count(random: &mut Random, most: usize) -> usize {
 }
 
 fn point(random: &mut Random) -> Point {
-    Point { x: random.word(), y: random.word() }
+    let [[a, b], [c, d]] = [random.word(), random.word()].map(u16::to_le_bytes);
+    [a, b, c, d]
 }
 
-fn points(random: &mut Random, most: usize) -> Vec<Point> {
-    (0..count(random, most)).map(|_| point(random)).collect()
+/// The two lists of 35h.
+fn rising_lists(random: &mut Random) -> Lists {
+    let (columns, rows) = (rising::<62>(random), rising::<32>(random));
+    let mut entries = columns.iter().chain(&rows);
+    std::array::from_fn(|_| entries.next().expect("62 and 32 entries").to_le_bytes())
 }
 
 /// A strictly rising list: scattered, or without a gap at either end of the numbers.

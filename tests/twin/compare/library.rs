@@ -2,58 +2,101 @@
 
 use std::ptr;
 
+use twin::front_end::Lent;
+
 extern "C" {
-    fn vermolgas_read(packet: *const u8, packet_len: usize) -> u64;
-    fn vermolgas_make(
+    pub fn vermolgas_reset(
+        block: *mut u8,
+        block_length: usize,
+        staged: *mut u8,
+        staged_length: usize,
+        live: *mut u8,
+        live_length: usize,
+        gains: *mut u8,
+        gains_length: usize,
+    ) -> u64;
+    pub fn vermolgas_packet(
+        packet: *const u8,
+        packet_length: usize,
+        block: *mut u8,
+        block_length: usize,
+        staged: *mut u8,
+        staged_length: usize,
+        live: *mut u8,
+        live_length: usize,
+        gains: *mut u8,
+        gains_length: usize,
+        reply: *mut u8,
+        reply_length: usize,
+    ) -> u64;
+    pub fn vermolgas_read(packet: *const u8, packet_length: usize) -> u64;
+    pub fn vermolgas_make(
         opcode: u16,
         options: u8,
         data: *const u8,
-        data_len: usize,
+        data_length: usize,
         buffer: *mut u8,
-        buffer_len: usize,
+        buffer_length: usize,
     ) -> u64;
-    fn vermolgas_read_reply(reply: *const u8, reply_len: usize, checksum_expected: u8) -> u64;
+    pub fn vermolgas_read_reply(reply: *const u8, reply_length: usize, checksum_expected: u8) -> u64;
 }
 
-pub fn read(packet: &[u8]) -> u64 {
-    // SAFETY: pointer and length are those of a slice, which the entry only reads.
-    unsafe { vermolgas_read(packet.as_ptr(), packet.len()) }
+/// The entries, and whether NULL stands for an empty slice, as the header allows.
+#[derive(Clone, Copy)]
+pub struct Library {
+    null: bool,
 }
 
-pub fn make(opcode: u16, options: u8, data: &[u8], buffer: &mut [u8]) -> u64 {
-    let (data, data_len) = (data.as_ptr(), data.len());
-    // SAFETY: pointers and lengths are those of slices; `buffer`, the one written, overlaps no other.
-    unsafe { vermolgas_make(opcode, options, data, data_len, buffer.as_mut_ptr(), buffer.len()) }
-}
+pub const LIBRARY: Library = Library { null: false };
+pub const WITH_NULL: Library = Library { null: true };
 
-pub fn read_reply(reply: &[u8], checksum_expected: u8) -> u64 {
-    // SAFETY: as in `read`.
-    unsafe { vermolgas_read_reply(reply.as_ptr(), reply.len(), checksum_expected) }
-}
-
-/// The same entries with NULL for each empty slice.
-pub mod null {
-    use super::*;
-
-    pub fn read() -> u64 {
-        // SAFETY: the header allows NULL with length 0; so below.
-        unsafe { vermolgas_read(ptr::null(), 0) }
+// SAFETY, for every call: pointer and length are those of a slice, or NULL and 0; a slice that is
+// written overlaps no other.
+impl Library {
+    fn pointer(self, slice: &[u8]) -> *const u8 {
+        if self.null && slice.is_empty() {
+            ptr::null()
+        } else {
+            slice.as_ptr()
+        }
     }
 
-    /// No data.
-    pub fn make(opcode: u16, options: u8, buffer: &mut [u8]) -> u64 {
-        // SAFETY: `buffer` is a slice.
-        unsafe { vermolgas_make(opcode, options, ptr::null(), 0, buffer.as_mut_ptr(), buffer.len()) }
+    fn pointer_mut(self, slice: &mut [u8]) -> *mut u8 {
+        if self.null && slice.is_empty() {
+            ptr::null_mut()
+        } else {
+            slice.as_mut_ptr()
+        }
     }
 
-    /// No buffer.
-    pub fn make_nowhere(opcode: u16, options: u8, data: &[u8]) -> u64 {
-        // SAFETY: `data` is a slice.
-        unsafe { vermolgas_make(opcode, options, data.as_ptr(), data.len(), ptr::null_mut(), 0) }
+    pub fn reset(self, lent: Lent) -> u64 {
+        let slices = [lent.block, lent.staged, lent.live, lent.gains];
+        let [block, staged, live, gains] = slices.map(|slice| (self.pointer_mut(slice), slice.len()));
+        unsafe { vermolgas_reset(block.0, block.1, staged.0, staged.1, live.0, live.1, gains.0, gains.1) }
     }
 
-    pub fn read_reply(checksum_expected: u8) -> u64 {
-        // SAFETY: as in `read`.
-        unsafe { vermolgas_read_reply(ptr::null(), 0, checksum_expected) }
+    #[rustfmt::skip]
+    pub fn packet(self, packet: &[u8], lent: Lent, reply: &mut [u8]) -> u64 {
+        let slices = [lent.block, lent.staged, lent.live, lent.gains, reply];
+        let [block, staged, live, gains, reply] = slices.map(|slice| (self.pointer_mut(slice), slice.len()));
+        unsafe {
+            vermolgas_packet(
+                self.pointer(packet), packet.len(), block.0, block.1, staged.0, staged.1, live.0, live.1,
+                gains.0, gains.1, reply.0, reply.1,
+            )
+        }
+    }
+
+    pub fn read(self, packet: &[u8]) -> u64 {
+        unsafe { vermolgas_read(self.pointer(packet), packet.len()) }
+    }
+
+    pub fn make(self, opcode: u16, options: u8, data: &[u8], buffer: &mut [u8]) -> u64 {
+        let (data, data_length) = (self.pointer(data), data.len());
+        unsafe { vermolgas_make(opcode, options, data, data_length, self.pointer_mut(buffer), buffer.len()) }
+    }
+
+    pub fn read_reply(self, reply: &[u8], checksum_expected: u8) -> u64 {
+        unsafe { vermolgas_read_reply(self.pointer(reply), reply.len(), checksum_expected) }
     }
 }

@@ -5,8 +5,8 @@ use twin::packet::{self, Header, LONGEST};
 use twin::refusal::Refusal;
 
 use crate::bench::Bench;
+use crate::counts::OFTEN;
 use crate::generate;
-use crate::reading::{faulty, pair, OFTEN};
 use crate::recipe::Packet;
 
 /// The refusals that making gives.
@@ -36,7 +36,7 @@ pub fn opcodes_and_options(bench: &mut Bench) {
     for opcode in Opcode::ALL {
         for options in 0..=255 {
             for direction in Direction::BOTH {
-                let data = generate::command(&mut bench.random, opcode, direction, LONGEST - 6).data();
+                let data = generate::data(&mut bench.random, opcode, direction, LONGEST - 6);
                 bench.make(opcode.number().into(), options, &data, LONGEST);
             }
         }
@@ -82,11 +82,11 @@ pub fn order(bench: &mut Bench) {
                 // A buffer too short is a fault of its own, beside any packet.
                 let (one, both, room) = match first {
                     Refusal::Lent => {
-                        let one = faulty(bench, second);
+                        let one = Packet::faulty(&mut bench.random, second);
                         (one.clone(), one, bench.random.below(LONGEST))
                     }
                     _ => {
-                        let (one, both) = pair(bench, first, second);
+                        let (one, both) = Packet::pair(&mut bench.random, first, second);
                         (one, both, LONGEST)
                     }
                 };

@@ -3,39 +3,32 @@
 //! printed, and counts that fall short are failures.
 
 mod bench;
+mod counts;
 mod generate;
+#[allow(dead_code, reason = "each program calls some of the entries")]
 mod library;
 mod making;
 mod random;
 mod reading;
 mod recipe;
 mod replies;
+mod report;
 
 use std::process::ExitCode;
 
-use bench::{make_answer, read_answer, reply_answer, Accepted, Bench, Refused};
-use reading::{acceptable, OFTEN};
-use twin::command::{Direction, Opcode};
+use bench::{make_answer, read_answer, reply_answer, Bench};
+use counts::{check_inputs, OFTEN};
+use library::WITH_NULL;
+use report::Report;
+use twin::command::Opcode;
 use twin::packet::{self, Header};
-use twin::refusal::Refusal;
 use twin::reply;
 
-const SEED: u64 = 0x7665_726D_6F6C_6761;
-
-/// Inputs in all, at least.
-const INPUTS: u64 = 1_000_000;
-
 fn main() -> ExitCode {
-    let seed = match std::env::args().nth(1).map(|text| text.parse()) {
-        None => SEED,
-        Some(Ok(seed)) => seed,
-        Some(Err(error)) => {
-            eprintln!("the seed is a number: {error}");
-            return ExitCode::from(2);
-        }
+    let mut bench = match Report::from_arguments() {
+        Ok(report) => Bench::new(report),
+        Err(status) => return status,
     };
-    println!("seed {seed}");
-    let mut bench = Bench::new(seed);
     bench.group("read and make, accepted", reading::accepted);
     bench.group("read, random bytes", reading::random_bytes);
     bench.group("read and make, every byte value", reading::every_byte);
@@ -58,73 +51,43 @@ fn main() -> ExitCode {
     bench.group("read_reply, random bytes", replies::random_bytes);
     bench.group("NULL for an empty slice", null_pointers);
     check_counts(&mut bench);
-    if bench.finish() {
-        ExitCode::SUCCESS
-    } else {
-        ExitCode::FAILURE
-    }
+    bench.report.finish()
 }
 
 /// NULL with length 0 is an empty slice.
 fn null_pointers(bench: &mut Bench) {
-    let mut answers = vec![("read", library::null::read(), read_answer(&packet::read(&[])))];
+    let mut answers = vec![("read", WITH_NULL.read(&[]), read_answer(&packet::read(&[])))];
     for checksum in [0, 1, 255] {
         let due = reply_answer(&reply::read(&[], checksum != 0));
-        answers.push(("read_reply", library::null::read_reply(checksum), due));
+        answers.push(("read_reply", WITH_NULL.read_reply(&[], checksum), due));
     }
     for opcode in Opcode::ALL {
         for options in 0..=255 {
             let (number, header) = (opcode.number().into(), Header::from_byte(options));
             let due = make_answer(&packet::make(header, number, &[0], &mut []));
-            answers.push(("make, no buffer", library::null::make_nowhere(number, options, &[0]), due));
+            answers.push(("make, no buffer", WITH_NULL.make(number, options, &[0], &mut []), due));
             let (mut buffer, mut due_buffer) = ([0xAA; 600], [0xAA; 600]);
             let due = make_answer(&packet::make(header, number, &[], &mut due_buffer));
-            answers.push(("make, no data", library::null::make(number, options, &mut buffer), due));
+            answers.push(("make, no data", WITH_NULL.make(number, options, &[], &mut buffer), due));
             bench.expect(buffer == due_buffer, || format!("make without data of {number:#x}, {options:#x}"));
         }
     }
     for (name, answer, due) in answers {
-        bench.counts.inputs += 1;
+        bench.report.inputs += 1;
         bench.expect(answer == due, || format!("{name} gives {answer:#x}, not {due:#x}"));
     }
 }
 
 /// Counts that fall short are failures.
 fn check_counts(bench: &mut Bench) {
-    check_accepted(bench, "accepted by read", |counts| &counts.read_accepted);
-    check_accepted(bench, "accepted by make", |counts| &counts.make_accepted);
-    let statuses = bench.counts.reply_accepted;
-    let least = statuses.iter().flatten().min().copied().unwrap_or(0);
+    let (counts, report) = (&bench.counts, &mut bench.report);
+    counts.read_accepted.check(report, "accepted by read");
+    counts.make_accepted.check(report, "accepted by make");
+    let least = counts.reply_accepted.iter().flatten().min().copied().unwrap_or(0);
     let said = format!("each status 0 to 12, without and with a checksum, at least {least} times");
-    bench.close("accepted by read_reply", least >= OFTEN, &said);
-    check_refused(bench, "refused by read", bench.counts.read_refused, &reading::REFUSALS);
-    check_refused(bench, "refused by make", bench.counts.make_refused, &making::REFUSALS);
-    check_refused(bench, "refused by read_reply", bench.counts.reply_refused, &replies::REFUSALS);
-    let inputs = bench.counts.inputs;
-    bench.close("inputs in all", inputs >= INPUTS, &format!("{inputs}"));
-}
-
-/// Each opcode, direction and set of options that can be accepted was, often enough.
-fn check_accepted(bench: &mut Bench, name: &str, accepted: fn(&bench::Counts) -> &Accepted) {
-    let mut counts = Vec::new();
-    for (opcode, by_direction) in Opcode::ALL.into_iter().zip(accepted(&bench.counts)) {
-        for (direction, by_set) in Direction::BOTH.into_iter().zip(by_direction) {
-            let sets = (0..16).zip(by_set).filter(|(set, _)| acceptable(opcode, direction, *set));
-            counts.extend(sets.map(|(_, count)| *count));
-        }
-    }
-    let (least, sum) = (counts.iter().min().copied().unwrap_or(0), counts.iter().sum::<u64>());
-    let said = format!(
-        "{sum}, each of {} sets of opcode, direction and options at least {least} times",
-        counts.len()
-    );
-    bench.close(name, least >= OFTEN, &said);
-}
-
-/// Each of these refusals was given, often enough.
-fn check_refused(bench: &mut Bench, name: &str, refused: Refused, refusals: &[Refusal]) {
-    let count = |refusal: &Refusal| refused[usize::from(refusal.number())];
-    let said: Vec<String> =
-        refusals.iter().map(|refusal| format!("{} × {}", refusal.number(), count(refusal))).collect();
-    bench.close(name, refusals.iter().all(|refusal| count(refusal) >= OFTEN), &said.join(", "));
+    report.close("accepted by read_reply", least >= OFTEN, &said);
+    counts.read_refused.check(report, "refused by read", &recipe::FAULTS);
+    counts.make_refused.check(report, "refused by make", &making::REFUSALS);
+    counts.reply_refused.check(report, "refused by read_reply", &replies::REFUSALS);
+    check_inputs(report);
 }

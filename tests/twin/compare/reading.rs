@@ -1,58 +1,14 @@
 //! Groups on `vermolgas_read`, and on `vermolgas_make` where both take the same inputs.
 
-use twin::command::{Direction, Opcode};
+use twin::command::Opcode;
 use twin::fields::checksum;
 use twin::packet::{self, Header, LONGEST};
 use twin::refusal::Refusal;
-use twin::settings::word_bytes;
 
 use crate::bench::Bench;
+use crate::counts::{commands, headers, OFTEN};
 use crate::generate;
-use crate::recipe::{other_opcode, Packet};
-
-/// How often each set of opcode, direction and options is accepted, at least, and each refusal
-/// given.
-pub const OFTEN: u64 = 1000;
-
-/// The refusals that reading gives.
-pub const REFUSALS: [Refusal; 10] = [
-    Refusal::TooShort,
-    Refusal::TooLong,
-    Refusal::Length,
-    Refusal::Checksum,
-    Refusal::Destination,
-    Refusal::Opcode,
-    Refusal::LengthMissing,
-    Refusal::Size,
-    Refusal::Range,
-    Refusal::NotCarried,
-];
-
-/// Whether a packet of this opcode, direction and set of options can be accepted: a write of 2Bh,
-/// 34h, 35h or 38h without a length field can't.
-pub fn acceptable(opcode: Opcode, direction: Direction, set: u8) -> bool {
-    direction == Direction::Read || !opcode.is_variable() || set & 2 != 0
-}
-
-/// Every opcode, direction and set of options that can be accepted, with its header byte.
-fn headers() -> impl Iterator<Item = (Opcode, Direction, u8)> {
-    commands().flat_map(|(opcode, direction)| {
-        let sets = (0..16).filter(move |set| acceptable(opcode, direction, *set));
-        sets.map(move |set| (opcode, direction, header(direction) | set << 3))
-    })
-}
-
-fn commands() -> impl Iterator<Item = (Opcode, Direction)> {
-    Opcode::ALL.into_iter().flat_map(|opcode| Direction::BOTH.map(|direction| (opcode, direction)))
-}
-
-/// The header byte without an option.
-fn header(direction: Direction) -> u8 {
-    match direction {
-        Direction::Write => 0x04,
-        Direction::Read => 0x84,
-    }
-}
+use crate::recipe::{other_opcode, Packet, FAULTS};
 
 /// Data as a packet's, in a frame without a fault, and as what a packet is made from.
 fn read_and_make(bench: &mut Bench, header: u8, opcode: Opcode, data: &[u8]) {
@@ -67,11 +23,13 @@ pub fn accepted(bench: &mut Bench) {
     for (opcode, direction, header) in headers() {
         let room = LONGEST - Header::from_byte(header).options.overhead();
         for _ in 0..OFTEN {
-            let command = generate::command(&mut bench.random, opcode, direction, room);
-            let packet = Packet::new(header, opcode.number().into(), command.data());
+            let data = generate::data(&mut bench.random, opcode, direction, room);
+            let packet = Packet::new(header, opcode.number().into(), data);
             let bytes = packet.bytes();
             let read = packet::read(&bytes).map(|reading| reading.command);
-            bench.expect(read.as_ref() == Ok(&command), || format!("twin: {read:?}, not {command:?}"));
+            let meant = read.map(|command| (command.opcode(), command.direction(), command.data()));
+            let due = Ok((opcode, direction, packet.data.clone()));
+            bench.expect(meant == due, || format!("twin: {meant:?}, not {due:?}"));
             bench.read(&bytes);
             let any_destination = header ^ bench.random.byte() & 7;
             let room = bench.random.pick(&[512, 512, 513, 1024]);
@@ -118,7 +76,7 @@ pub fn every_byte(bench: &mut Bench) {
     for (opcode, direction) in commands() {
         for round in 0..18 {
             // Room for the short forms: a few words or points, 35h in mode 0.
-            let mut data = generate::command(&mut bench.random, opcode, direction, 14).data();
+            let mut data = generate::data(&mut bench.random, opcode, direction, 14);
             let numbers = numbers(opcode);
             if !numbers.is_empty() {
                 data[0] = numbers[round % numbers.len()];
@@ -264,7 +222,7 @@ pub fn sizes(bench: &mut Bench) {
 pub fn damaged(bench: &mut Bench) {
     for (opcode, direction, header) in headers() {
         for _ in 0..4 {
-            let data = generate::command(&mut bench.random, opcode, direction, LONGEST - 6).data();
+            let data = generate::data(&mut bench.random, opcode, direction, LONGEST - 6);
             let packet = Packet::new(header, opcode.number().into(), data);
             changed_bytes(bench, &packet.bytes());
             changed_fields(bench, &packet);
@@ -352,15 +310,15 @@ pub fn long(bench: &mut Bench) {
 /// Two faults at once: the one tried first is answered. Each pair of refusals that one packet can
 /// call for.
 pub fn order(bench: &mut Bench) {
-    for (index, first) in REFUSALS.into_iter().enumerate() {
-        for second in REFUSALS.into_iter().skip(index + 1) {
+    for (index, first) in FAULTS.into_iter().enumerate() {
+        for second in FAULTS.into_iter().skip(index + 1) {
             // No packet is too short and too long; none has a wrong length field and has none.
             let never = [(Refusal::TooShort, Refusal::TooLong), (Refusal::Length, Refusal::LengthMissing)];
             if never.contains(&(first, second)) {
                 continue;
             }
             for _ in 0..OFTEN {
-                let (one, both) = pair(bench, first, second);
+                let (one, both) = Packet::pair(&mut bench.random, first, second);
                 for (packet, due) in [(one.bytes(), second), (both.bytes(), first)] {
                     let refusal = packet::read(&packet).err();
                     bench.expect(refusal == Some(due), || format!("twin: {refusal:?}, not {due:?}"));
@@ -371,22 +329,6 @@ pub fn order(bench: &mut Bench) {
     }
 }
 
-/// A packet with this fault alone.
-pub fn faulty(bench: &mut Bench, fault: Refusal) -> Packet {
-    let random = &mut bench.random;
-    loop {
-        if let Some(packet) = Packet::sound(random).spoilt(random, fault) {
-            return packet;
-        }
-    }
-}
-
-/// A packet with the second fault alone, and one with both.
-pub fn pair(bench: &mut Bench, first: Refusal, second: Refusal) -> (Packet, Packet) {
-    loop {
-        let one = faulty(bench, second);
-        if let Some(both) = one.spoilt(&mut bench.random, first) {
-            return (one, both);
-        }
-    }
+fn word_bytes(words: &[u16]) -> Vec<u8> {
+    words.iter().flat_map(|word| word.to_le_bytes()).collect()
 }

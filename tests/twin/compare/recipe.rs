@@ -1,4 +1,4 @@
-//! Packets and replies by their fields, each of which can be made wrong.
+//! Packets by their fields, each of which can be made wrong.
 
 use twin::command::{Command, Direction, Opcode};
 use twin::fields::checksum;
@@ -7,6 +7,20 @@ use twin::refusal::Refusal;
 
 use crate::generate;
 use crate::random::Random;
+
+/// The refusals that reading gives: the faults that a packet has by itself.
+pub const FAULTS: [Refusal; 10] = [
+    Refusal::TooShort,
+    Refusal::TooLong,
+    Refusal::Length,
+    Refusal::Checksum,
+    Refusal::Destination,
+    Refusal::Opcode,
+    Refusal::LengthMissing,
+    Refusal::Size,
+    Refusal::Range,
+    Refusal::NotCarried,
+];
 
 /// A packet's fields, how far the length field and the checksum are off, and how many bytes of it
 /// are kept.
@@ -42,8 +56,27 @@ impl Packet {
         } else if opcode.is_variable() {
             header |= 0x10;
         }
-        let data = generate::command(random, opcode, direction, LONGEST - 14).data();
+        let data = generate::data(random, opcode, direction, LONGEST - 14);
         Packet::new(header, opcode.number().into(), data)
+    }
+
+    /// A packet with this fault alone.
+    pub fn faulty(random: &mut Random, fault: Refusal) -> Self {
+        loop {
+            if let Some(packet) = Packet::sound(random).spoilt(random, fault) {
+                return packet;
+            }
+        }
+    }
+
+    /// A packet with the second fault alone, and one with both.
+    pub fn pair(random: &mut Random, first: Refusal, second: Refusal) -> (Self, Self) {
+        loop {
+            let one = Packet::faulty(random, second);
+            if let Some(both) = one.spoilt(random, first) {
+                return (one, both);
+            }
+        }
     }
 
     /// The bytes, written field by field.
@@ -118,7 +151,15 @@ impl Packet {
                 *packet.data.first_mut()? = 1;
                 (packet.fault()? == fault).then_some(())?;
             }
-            Refusal::Lent | Refusal::PastTable => return None,
+            Refusal::PastTable => {
+                // Past every table, whatever the count.
+                let start = random.pick(&[2016, 2017, 0x7FFF, 0x8000, 0xFF00, 0xFFFE, u16::MAX]);
+                let (direction, opcode) = packet.command()?;
+                let place = generate::start_place(opcode, direction)?;
+                packet.data.get_mut(place)?.copy_from_slice(&start.to_le_bytes());
+            }
+            // A fault of what is lent, and of no packet.
+            Refusal::Lent => return None,
         }
         Some(packet)
     }
@@ -141,55 +182,5 @@ pub fn other_opcode(random: &mut Random) -> u16 {
         if Opcode::find(opcode).is_none() {
             return opcode;
         }
-    }
-}
-
-/// A reply's fields, and what is wrong with them.
-#[derive(Clone)]
-pub struct Reply {
-    pub status: u8,
-    pub data: Vec<u8>,
-    pub with_checksum: bool,
-    pub length_error: u16,
-    pub checksum_error: u8,
-    pub kept: usize,
-}
-
-impl Reply {
-    /// A reply without a fault, if the status is none.
-    pub fn new(status: u8, data: Vec<u8>, with_checksum: bool) -> Self {
-        Reply { status, data, with_checksum, length_error: 0, checksum_error: 0, kept: usize::MAX }
-    }
-
-    pub fn bytes(&self) -> Vec<u8> {
-        let mut bytes = vec![self.status];
-        bytes.extend((self.data.len() as u16).wrapping_add(self.length_error).to_le_bytes());
-        bytes.extend(&self.data);
-        if self.with_checksum {
-            bytes.push(checksum(&bytes).wrapping_add(self.checksum_error));
-        }
-        bytes.truncate(self.kept);
-        bytes
-    }
-
-    /// This reply with one more fault; none for a fault that no reply can have.
-    pub fn spoilt(&self, random: &mut Random, fault: Refusal) -> Option<Self> {
-        let mut reply = self.clone();
-        match fault {
-            Refusal::TooShort => reply.kept = random.below(3 + usize::from(self.with_checksum)),
-            Refusal::TooLong => {
-                let length = random.pick(&[513, 514, 600, 65_536, 65_539 + self.data.len(), 66_048]);
-                let more = length.saturating_sub(self.bytes().len()).max(1);
-                reply.data.extend(random.bytes(more));
-            }
-            Refusal::Length => reply.length_error = random.pick(&[1, 2, 0x100, 0x8000, 0xFF00, 0xFFFF]),
-            Refusal::Checksum => {
-                reply.with_checksum = true;
-                reply.checksum_error = random.pick(&[1, 2, 0x80, 0xFF]);
-            }
-            Refusal::Range => reply.status = random.byte_within(13..=255),
-            _ => return None,
-        }
-        Some(reply)
     }
 }

@@ -1,12 +1,13 @@
 //! Groups on `vermolgas_read_reply`.
 
+use twin::fields::checksum;
 use twin::packet::LONGEST;
 use twin::refusal::Refusal;
 use twin::reply::{self, HEAD};
 
 use crate::bench::Bench;
-use crate::reading::OFTEN;
-use crate::recipe::Reply;
+use crate::counts::OFTEN;
+use crate::random::Random;
 
 /// The refusals that reply reading gives.
 pub const REFUSALS: [Refusal; 5] =
@@ -14,6 +15,56 @@ pub const REFUSALS: [Refusal; 5] =
 
 /// What says that a checksum is expected: 0 no, any other yes.
 const CHECKSUM: [u8; 4] = [0, 1, 2, 255];
+
+/// A reply's fields, and what is wrong with them.
+#[derive(Clone)]
+struct Reply {
+    status: u8,
+    data: Vec<u8>,
+    with_checksum: bool,
+    length_error: u16,
+    checksum_error: u8,
+    kept: usize,
+}
+
+impl Reply {
+    /// A reply without a fault, if the status is none.
+    fn new(status: u8, data: Vec<u8>, with_checksum: bool) -> Self {
+        Reply { status, data, with_checksum, length_error: 0, checksum_error: 0, kept: usize::MAX }
+    }
+
+    fn bytes(&self) -> Vec<u8> {
+        let mut bytes = vec![self.status];
+        bytes.extend((self.data.len() as u16).wrapping_add(self.length_error).to_le_bytes());
+        bytes.extend(&self.data);
+        if self.with_checksum {
+            bytes.push(checksum(&bytes).wrapping_add(self.checksum_error));
+        }
+        bytes.truncate(self.kept);
+        bytes
+    }
+
+    /// This reply with one more fault; none for a fault that no reply can have.
+    fn spoilt(&self, random: &mut Random, fault: Refusal) -> Option<Self> {
+        let mut reply = self.clone();
+        match fault {
+            Refusal::TooShort => reply.kept = random.below(3 + usize::from(self.with_checksum)),
+            Refusal::TooLong => {
+                let length = random.pick(&[513, 514, 600, 65_536, 65_539 + self.data.len(), 66_048]);
+                let more = length.saturating_sub(self.bytes().len()).max(1);
+                reply.data.extend(random.bytes(more));
+            }
+            Refusal::Length => reply.length_error = random.pick(&[1, 2, 0x100, 0x8000, 0xFF00, 0xFFFF]),
+            Refusal::Checksum => {
+                reply.with_checksum = true;
+                reply.checksum_error = random.pick(&[1, 2, 0x80, 0xFF]);
+            }
+            Refusal::Range => reply.status = random.byte_within(13..=255),
+            _ => return None,
+        }
+        Some(reply)
+    }
+}
 
 /// A reply of any status, and whether it has a checksum.
 fn reply(bench: &mut Bench, status: u8, with_checksum: bool) -> Reply {

@@ -1,37 +1,47 @@
 //! The bench packets of document 01, and more by hand, on the twin itself.
 
+use crate::block;
 use crate::command::{Colour, Command, Direction, Opcode, Read, Target, Write};
+use crate::front_end::{self, Lent, Memory};
 use crate::packet::{self, assemble, Header};
 use crate::refusal::Refusal;
 use crate::reply::{self, Reply};
-use crate::settings::{ControlPoints, Point};
-use crate::state::{Answer, State};
+use crate::scripts::{hex, SCRIPTS};
+use crate::settings::{Settings, Shape};
 
-/// Bytes from hex, as document 01 writes them.
-fn hex(text: &str) -> Vec<u8> {
-    text.split_whitespace().map(|byte| u8::from_str_radix(byte, 16).unwrap()).collect()
+/// What reading gives of a packet in hex, seen by `see`.
+fn reading<T>(text: &str, see: impl FnOnce(Result<Command, Refusal>) -> T) -> T {
+    see(packet::read(&hex(text)).map(|reading| reading.command))
 }
 
-/// What reading gives, its command alone.
-fn command(text: &str) -> Result<Command, Refusal> {
-    packet::read(&hex(text)).map(|reading| reading.command)
+fn assert_reads(text: &str, expected: Result<Command, Refusal>) {
+    reading(text, |command| assert_eq!(command, expected, "{text}"));
 }
 
 /// The refusal's number that reading gives, 0 for none.
 fn refusal(text: &str) -> u8 {
-    command(text).map_or_else(Refusal::number, |_| 0)
+    reading(text, |command| command.map_or_else(Refusal::number, |_| 0))
 }
 
-/// The answers to packets taken one after the other from reset, and the state after.
-fn session(packets: &[&str]) -> (Vec<Answer>, State) {
-    let mut state = State::default();
-    let answers = packets.iter().map(|text| state.packet(&hex(text))).collect();
-    (answers, state)
+/// One packet, and the reply written; what lies behind it is unchanged.
+fn send(memory: &mut Memory, packet: &[u8]) -> (u8, Vec<u8>) {
+    let mut reply = [0xAA; 600];
+    let answer = front_end::packet(packet, memory.lend(), &mut reply);
+    assert!(reply[answer.length..].iter().all(|byte| *byte == 0xAA));
+    (answer.status, reply[..answer.length].to_vec())
 }
 
-/// An answer with a status and the reply given, or none.
-fn answer(status: u8, reply: Option<&str>) -> Answer {
-    Answer { status, reply: reply.map(hex) }
+/// The state after packets that are accepted without a reply, from reset.
+fn after(packets: &[&str]) -> Memory {
+    let mut memory = Memory::default();
+    for text in packets {
+        assert_eq!(send(&mut memory, &hex(text)), (0, vec![]), "{text}");
+    }
+    memory
+}
+
+fn settings(memory: &Memory) -> Settings {
+    Settings::take(&memory.block).expect("packets leave settings in range")
 }
 
 #[test]
@@ -39,100 +49,128 @@ fn bench_packets_read() {
     let display = |value| Ok(Command::Write(Write::Display(value)));
     assert_eq!(refusal(""), 2);
     assert_eq!(refusal("24 11"), 2);
-    assert_eq!(command("04 11 01"), display(1));
-    assert_eq!(command("84 11"), Ok(Command::Read(Read::Display)));
-    assert_eq!(command("44 11 01"), display(1));
-    assert_eq!(command("0C 11 00 01"), display(1));
-    assert_eq!(command("24 11 01 36"), display(1));
+    assert_reads("04 11 01", display(1));
+    assert_reads("84 11", Ok(Command::Read(Read::Display)));
+    assert_reads("44 11 01", display(1));
+    assert_reads("0C 11 00 01", display(1));
+    assert_reads("24 11 01 36", display(1));
     assert_eq!(refusal("24 11 01 37"), 5);
     assert_eq!(refusal("03 11 01"), 6);
     assert_eq!(refusal("14 11 02 00 01"), 4);
     assert_eq!(refusal("04 11 05"), 10);
     assert_eq!(refusal("04 1A 01"), 10);
-    assert_eq!(command("04 1A 02"), Ok(Command::Write(Write::CurtainColour(2))));
+    assert_reads("04 1A 02", Ok(Command::Write(Write::CurtainColour(2))));
     assert_eq!(refusal("04 39 01"), 11);
     assert_eq!(refusal("04 39 02"), 10);
     assert_eq!(refusal("04 34 00 00 08 00 10 00"), 8);
     assert_eq!(refusal("14 34 02 00 00 00"), 9);
-    let points = vec![Point { x: 1, y: 2 }];
-    assert_eq!(
-        command("14 34 06 00 BF 07 01 00 02 00"),
-        Ok(Command::Write(Write::Map { start: 1983, points: points.clone() }))
-    );
+    let points = &[[1, 0, 2, 0]];
+    assert_reads("14 34 06 00 BF 07 01 00 02 00", Ok(Command::Write(Write::Map { start: 1983, points })));
     // Past the table, which is no matter of reading.
-    assert_eq!(
-        command("14 34 06 00 C0 07 01 00 02 00"),
-        Ok(Command::Write(Write::Map { start: 1984, points }))
-    );
-    let Ok(Command::Write(gains)) = command("14 2B 08 00 00 01 01 00 DF 07 00 14") else {
-        panic!("the gain write is accepted");
-    };
-    let red = Target::One(Colour::Red);
-    assert_eq!(gains, Write::Gains { target: red, start: 2015, words: vec![5120] });
+    assert_reads("14 34 06 00 C0 07 01 00 02 00", Ok(Command::Write(Write::Map { start: 1984, points })));
+    let words = &[5120_u16.to_le_bytes()];
+    let gains = Write::Gains { target: Target::One(Colour::Red), start: 2015, words };
+    assert_reads("14 2B 08 00 00 01 01 00 DF 07 00 14", Ok(Command::Write(gains)));
 }
 
 #[test]
-fn bench_packets_on_a_state() {
-    assert_eq!(session(&["04 11 01", "84 11"]).0, [answer(0, None), answer(0, Some("00 01 00 01"))]);
-    assert_eq!(session(&["44 11 01"]).0, [answer(0, Some("00 00 00"))]);
-    assert_eq!(session(&["24 11 01 37", "", "03 11 01"]).0, [5, 2, 6].map(|n| answer(n, None)));
-    let (answers, state) = session(&["14 34 06 00 BF 07 01 00 02 00", "14 34 06 00 C0 07 01 00 02 00"]);
-    assert_eq!(answers, [answer(0, None), answer(12, None)]);
-    let mut expected = State::default();
-    expected.staged[1983] = Point { x: 1, y: 2 };
-    assert_eq!(state, expected);
-    let (answers, state) = session(&["14 2B 08 00 00 01 01 00 DF 07 00 14"]);
-    assert_eq!(answers, [answer(0, None)]);
-    let mut expected = State::default();
-    expected.gains[2015] = 5120;
-    assert_eq!(state, expected);
+fn scripts_give_their_answers() {
+    for script in SCRIPTS {
+        let mut memory = Memory::default();
+        for (packet, status, reply) in script.steps {
+            let due = (*status, hex(reply));
+            assert_eq!(send(&mut memory, &hex(packet)), due, "{}: {packet}", script.name);
+        }
+    }
 }
 
 #[test]
-fn replies_are_written_as_the_header_asks() {
-    // A lone header that asks for a reply with a checksum.
-    assert_eq!(session(&["60"]).0, [answer(2, Some("02 00 00 02"))]);
-    assert_eq!(session(&["A4 11 B5"]).0, [answer(0, Some("00 01 00 00 01"))]);
-    assert_eq!(
-        session(&["84 7F", "40 11", "04 7F"]).0,
-        [answer(7, Some("07 00 00")), answer(6, Some("06 00 00")), answer(7, None)]
-    );
+fn bench_packets_change_one_entry() {
+    let mut expected = Memory::default();
+    expected.staged[4 * 1983..].copy_from_slice(&[1, 0, 2, 0]);
+    assert_eq!(after(&["14 34 06 00 BF 07 01 00 02 00"]), expected);
+    let mut expected = Memory::default();
+    expected.gains[2 * 2015..2 * 2016].copy_from_slice(&[0x00, 0x14]);
+    assert_eq!(after(&["14 2B 08 00 00 01 01 00 DF 07 00 14"]), expected);
+    let mut expected = Memory::default();
+    expected.block[block::DISPLAY] = 1;
+    assert_eq!(after(&["04 11 01"]), expected);
 }
 
 #[test]
-fn start_and_count_do_not_wrap() {
-    let (answers, state) = session(&["14 34 0A 00 FF FF 01 00 01 00 02 00 02 00", "84 34 FF FF 02 00"]);
-    assert_eq!(answers, [answer(12, None), answer(12, Some("0C 00 00"))]);
-    assert_eq!(state, State::default());
+fn reset_writes_everything() {
+    let mut memory = Memory::default();
+    memory.block.fill(0xEE);
+    for table in [&mut memory.staged, &mut memory.live, &mut memory.gains] {
+        table.fill(0xEE);
+    }
+    assert_eq!(front_end::reset(memory.lend()), Ok(()));
+    assert_eq!(memory, Memory::default());
+    assert_eq!(settings(&memory), Settings::default());
+    assert!(memory.block[block::JUDGED..].iter().all(|byte| *byte == 0));
+    assert!(memory.staged.iter().chain(&memory.live).all(|byte| *byte == 0));
+    assert!(memory.gains.chunks(2).all(|gain| gain == [0x00, 0x10]));
 }
 
 #[test]
-fn settings_read_back() {
-    let (answers, _) = session(&[
-        "04 60 57 01 00 01",
-        "04 61 57 01",
-        "84 60 57",
-        "84 61 57",
-        "04 65 0D F0 89 9E 00 64 01",
-        "84 65 0D",
-        "84 65 00",
-        "04 6D 02 01 0B 03 01 02 01 04 04 01 01",
-        "84 6D 02",
+fn settings_and_blocks_go_both_ways() {
+    // A different value in every field, where its range allows it.
+    let memory = after(&[
+        "04 11 04",
+        "04 12 01",
+        "04 13 01 02",
+        "04 1A 08",
+        "04 1B 09",
+        "04 1C 03",
+        "04 1D 01",
+        "04 36 01",
+        "14 35 05 00 00 03 00 04 00",
+        "14 38 26 00 03 03 01 02 03 04 05 06 07 08 09 0A 0B 0C 0D 0E 0F 10 11 12 13 14 15 16 17 18 19 1A 1B \
+         1C 1D 1E 1F 20 21 22 23 24",
+        "04 60 00 01 00 01",
+        "04 60 57 00 01 01",
+        "04 65 00 15 16 17 00 18 01",
+        "04 65 0D 15 16 17 00 19 01",
+        "04 6C 01",
+        "04 6D 00 01 0B 03 01 02 01 04 03 01 01",
+        "04 6D 02 01 0A 02 01 01 01 02 01 01 01",
     ]);
-    let replies: Vec<_> = answers.into_iter().filter_map(|answer| answer.reply).collect();
-    let expected = [
-        "00 03 00 01 01 01",
-        "00 01 00 01",
-        "00 06 00 F0 89 9E 00 64 01",
-        "00 06 00 14 00 00 00 00 00",
-        "00 0A 00 01 0B 03 01 02 01 04 04 01 01",
-    ];
-    assert_eq!(replies, expected.map(hex));
+    let taken = settings(&memory);
+    assert_eq!(taken.bytes(), memory.block[..block::JUDGED]);
+    let mut expected = Settings {
+        display: 4,
+        low_latency: true,
+        look: 0x0201,
+        curtain_colour: 8,
+        splash_image: 9,
+        flip: 3,
+        freeze: true,
+        staged: Shape { columns: 3, rows: 4, ..Shape::default() },
+        enable: true,
+        eeprom_lock: true,
+        ..Settings::default()
+    };
+    for (index, byte) in expected.smooth.points.as_flattened_mut()[..36].iter_mut().enumerate() {
+        *byte = index as u8 + 1;
+    }
+    (expected.pins[0].direction, expected.pins[0].drain) = (true, true);
+    (expected.pins[87].level, expected.pins[87].drain) = (true, true);
+    for (place, duty) in [(0, 0x18), (11, 0x19)] {
+        let pwm = &mut expected.pwms[place];
+        (pwm.frequency, pwm.duty, pwm.on) = (0x0017_1615, duty, true);
+    }
+    for (place, numbers) in [(0, [11, 3, 2, 4, 3]), (2, [10, 2, 1, 2, 1])] {
+        let uart = &mut expected.uarts[place];
+        (uart.on, uart.stop, uart.flow, uart.polarity, uart.source) = (true, true, true, true, true);
+        let [baud, bits, parity, receive, send] = numbers;
+        (uart.baud, uart.bits, uart.parity, uart.triggers) = (baud, bits, parity, [receive, send]);
+    }
+    assert_eq!(taken, expected);
 }
 
 #[test]
 fn live_stays_when_staged_changes() {
-    let (_, state) = session(&[
+    let memory = after(&[
         "14 34 06 00 05 00 01 00 02 00",
         "14 35 05 00 00 03 00 04 00",
         "04 36 01",
@@ -140,11 +178,127 @@ fn live_stays_when_staged_changes() {
         "14 35 05 00 00 02 00 02 00",
         "04 36 00",
     ]);
-    assert_eq!(state.live[5], Point { x: 1, y: 2 });
-    assert_eq!(state.settings.live.control_points(), ControlPoints::Even { columns: 3, rows: 4 });
-    assert_eq!((state.settings.staged.points(), state.settings.enable), (4, false));
+    let settings = settings(&memory);
+    assert_eq!(memory.live[20..24], [1, 0, 2, 0]);
+    assert_eq!((settings.live.columns, settings.live.rows), (3, 4));
+    assert_eq!((settings.staged.columns, settings.staged.rows), (2, 2));
+    assert!(!settings.enable);
     // Staged points keep their index when the shape shrinks.
-    assert_eq!(state.staged[5], Point { x: 7, y: 7 });
+    assert_eq!(memory.staged[20..24], [7, 0, 7, 0]);
+}
+
+#[test]
+fn mode_0_keeps_the_lists_of_mode_1() {
+    let entries: Vec<u8> = (0..94).flat_map(|i: u16| (700 * (i % 62) + 5).to_le_bytes()).collect();
+    let mut memory = after(&["14 35 05 00 00 03 00 04 00"]);
+    let packet = [&[0x14, 0x35, 189, 0, 1][..], &entries].concat();
+    assert_eq!(send(&mut memory, &packet), (0, vec![]));
+    let shape = settings(&memory).staged;
+    assert_eq!((shape.listed, shape.columns, shape.rows), (true, 62, 32));
+    assert_eq!(shape.lists.as_flattened(), entries);
+    assert_eq!(send(&mut memory, &hex("84 35")).1, [&[0, 189, 0, 1][..], &entries].concat());
+    assert_eq!(send(&mut memory, &hex("14 35 05 00 00 03 00 04 00")), (0, vec![]));
+    assert_eq!(settings(&memory).staged, Shape { listed: false, columns: 3, rows: 4, ..shape });
+    assert_eq!(send(&mut memory, &hex("84 35")).1, hex("00 05 00 00 03 00 04 00"));
+}
+
+#[test]
+fn smooth_points_past_those_written_stay() {
+    let mut memory = Memory::default();
+    let write = |columns: u8, rows: u8, fill: u8| {
+        let size = 2 + 4 * usize::from(columns * rows);
+        let mut packet = vec![0x14, 0x38, size as u8, 0, columns, rows];
+        packet.resize(4 + size, fill);
+        packet
+    };
+    assert_eq!(send(&mut memory, &write(5, 5, 7)), (0, vec![]));
+    assert_eq!(send(&mut memory, &write(3, 4, 9)), (0, vec![]));
+    let smooth = settings(&memory).smooth;
+    assert_eq!((smooth.columns, smooth.rows), (3, 4));
+    assert_eq!(smooth.points[..12], [[9; 4]; 12]);
+    assert_eq!(smooth.points[12..], [[7; 4]; 13]);
+    assert_eq!(send(&mut memory, &hex("84 38")).1.len(), 3 + 2 + 48);
+}
+
+#[test]
+fn the_longest_replies_fill_512_bytes() {
+    let mut memory = Memory::default();
+    // Gains above 8,191 are taken as they lie.
+    memory.gains.fill(0xFF);
+    for text in ["A4 34 00 00 7F 00 57", "A4 2B 01 00 00 FE 00 CE"] {
+        let (status, reply) = send(&mut memory, &hex(text));
+        assert_eq!((status, reply.len()), (0, 512), "{text}");
+        assert_eq!(reply::read(&reply, true).map(|reply| reply.data.len()), Ok(508));
+    }
+    assert_eq!(send(&mut memory, &hex("84 2B 03 00 00 01 00")).1, hex("00 02 00 FF FF"));
+}
+
+#[test]
+fn wrong_lengths_are_refused_first() {
+    let mut memory = Memory::default();
+    let answer = |memory: &mut Memory, lengths: [usize; 4], reply: usize| {
+        let lent = memory.lend();
+        let mut block = lent.block.to_vec();
+        block.resize(lengths[0], 0);
+        let mut tables = [lent.staged.to_vec(), lent.live.to_vec(), lent.gains.to_vec()];
+        for (table, length) in tables.iter_mut().zip(&lengths[1..]) {
+            table.resize(*length, 0);
+        }
+        let [staged, live, gains] = &mut tables;
+        let lent = Lent { block: &mut block, staged, live, gains };
+        let answer = front_end::packet(&hex("84 11"), lent, &mut vec![0; reply]);
+        (answer.status, answer.length)
+    };
+    let right = [1024, 7936, 7936, 12_096];
+    assert_eq!(answer(&mut memory, right, 512), (0, 4));
+    assert_eq!(answer(&mut memory, right, 600), (0, 4));
+    assert_eq!(answer(&mut memory, right, 511), (1, 0));
+    for place in 0..4 {
+        for wrong in [0, 1, right[place] - 1, right[place] + 1, right[place] + 4, 2 * right[place]] {
+            let mut lengths = right;
+            lengths[place] = wrong;
+            assert_eq!(answer(&mut memory, lengths, 512), (1, 0), "{lengths:?}");
+        }
+    }
+}
+
+#[test]
+fn a_setting_out_of_range_is_refused_first() {
+    for packet in ["", "60", "84 11", "44 11 01", "24 11 01 37"] {
+        for place in [0, 1, 4, 6, 7, 8, 201, 202, 395, 396, 497, 498, 761, 766, 767, 834, 835, 864] {
+            let mut memory = Memory::default();
+            memory.block[place] = 255;
+            let before = memory.clone();
+            assert_eq!(send(&mut memory, &hex(packet)), (1, vec![]), "{packet}, byte {place}");
+            assert_eq!(memory, before);
+        }
+    }
+    // Changes to a shape after reset; the live shape lies 194 bytes behind the staged one.
+    let cases: [(&[(usize, u8)], u8); 12] = [
+        (&[(8, 1)], 0),
+        (&[(9, 61)], 0),
+        (&[(9, 1)], 1),
+        (&[(11, 1)], 1),
+        // In mode 1 any shape but 62 × 32.
+        (&[(8, 1), (9, 61)], 1),
+        (&[(8, 1), (11, 31)], 1),
+        // Lists not rising: the first entry, the last, equal to the one beside it.
+        (&[(13, 1)], 1),
+        (&[(135, 60)], 1),
+        (&[(135, 62)], 0),
+        (&[(137, 1)], 1),
+        (&[(199, 30)], 1),
+        (&[(8, 1), (199, 30)], 1),
+    ];
+    for (changes, status) in cases {
+        for shape in [0, 194] {
+            let mut memory = Memory::default();
+            for (place, value) in changes {
+                memory.block[shape + place] = *value;
+            }
+            assert_eq!(send(&mut memory, &hex("04 11 01")).0, status, "{changes:?}");
+        }
+    }
 }
 
 #[test]
@@ -180,6 +334,10 @@ fn lengths_of_512_and_more() {
 fn headers_and_commands_go_both_ways() {
     for byte in 0..=255 {
         assert_eq!(Header::from_byte(byte).byte(), byte);
+    }
+    for number in 0..=u16::MAX {
+        let carried = Opcode::ALL.into_iter().find(|opcode| u16::from(opcode.number()) == number);
+        assert_eq!(Opcode::find(number), carried);
     }
     for opcode in Opcode::ALL {
         for direction in Direction::BOTH {
@@ -233,9 +391,13 @@ fn replies_read_back() {
     for status in 0..=12 {
         for size in [0, 1, 255, 256, 508] {
             for with_checksum in [false, true] {
-                let reply = Reply { status, data: &vec![status; size] };
-                let bytes = reply::make(reply, with_checksum);
-                assert_eq!(reply::read(&bytes, with_checksum), Ok(reply));
+                let data = vec![status; size];
+                let mut buffer = [0xAA; 600];
+                let parts = data.split_at(size / 3);
+                let length = reply::write(&mut buffer, status, parts.into(), with_checksum);
+                assert_eq!(length, 3 + size + usize::from(with_checksum));
+                assert_eq!(reply::read(&buffer[..length], with_checksum), Ok(Reply { status, data: &data }));
+                assert!(buffer[length..].iter().all(|byte| *byte == 0xAA));
             }
         }
     }

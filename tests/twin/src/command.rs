@@ -1,11 +1,9 @@
 //! The eighteen commands of document 01 ("Commands carried") as types, and how their data is read
 //! and written.
 
-use crate::fields::{within, Fields, OutOfRange};
+use crate::fields::{within, Fields, OutOfRange, Word};
 use crate::refusal::Refusal;
-use crate::settings::{
-    curtain_colour, point_bytes, word_bytes, ControlPoints, Pin, Point, Pwm, Uart, PINS, PWM_PORTS, UARTS,
-};
+use crate::settings::{curtain_colour, ControlPoints, Pin, Point, Pwm, Uart, PINS, PWM_PORTS, UARTS};
 
 impl From<OutOfRange> for Refusal {
     fn from(_: OutOfRange) -> Self {
@@ -76,7 +74,7 @@ impl Opcode {
 
     /// The opcode of this number; none (refusal 7) if it isn't carried.
     pub fn find(number: u16) -> Option<Opcode> {
-        Opcode::ALL.into_iter().find(|opcode| u16::from(opcode.number()) == number)
+        *BY_NUMBER.get(usize::from(number))?
     }
 
     /// Whether a write needs a length field (refusal 8).
@@ -84,6 +82,17 @@ impl Opcode {
         matches!(self, Opcode::Gains | Opcode::Map | Opcode::ControlPoints | Opcode::SmoothTable)
     }
 }
+
+/// Each opcode at the index of its number.
+const BY_NUMBER: [Option<Opcode>; 256] = {
+    let mut by_number = [None; 256];
+    let mut index = 0;
+    while index < Opcode::ALL.len() {
+        by_number[Opcode::ALL[index] as usize] = Some(Opcode::ALL[index]);
+        index += 1;
+    }
+    by_number
+};
 
 /// The colours that a 2Bh write names.
 #[derive(Clone, Copy, Debug, PartialEq, Eq)]
@@ -126,9 +135,9 @@ impl Colour {
     }
 }
 
-/// What a write asks for, its values in range.
-#[derive(Clone, Debug, PartialEq, Eq)]
-pub enum Write {
+/// What a write asks for, its values in range. Words and points lie where the packet has them.
+#[derive(Clone, Copy, Debug, PartialEq, Eq)]
+pub enum Write<'a> {
     /// 11h: display 0-4.
     Display(u8),
     /// 12h.
@@ -144,15 +153,15 @@ pub enum Write {
     /// 1Dh.
     Freeze(bool),
     /// 2Bh: as many words, 0-8191, as the packet counts, uncompressed.
-    Gains { target: Target, start: u16, words: Vec<u16> },
+    Gains { target: Target, start: u16, words: &'a [Word] },
     /// 34h: one point or more.
-    Map { start: u16, points: Vec<Point> },
+    Map { start: u16, points: &'a [Point] },
     /// 35h.
-    ControlPoints(ControlPoints),
+    ControlPoints(ControlPoints<'a>),
     /// 36h.
     Apply(bool),
     /// 38h: columns and rows 3-5, then exactly columns × rows points.
-    SmoothTable { columns: u8, rows: u8, points: Vec<Point> },
+    SmoothTable { columns: u8, rows: u8, points: &'a [Point] },
     /// 39h: only mode 0 is carried.
     UpdateMode,
     /// 60h: pin 0-87.
@@ -167,10 +176,10 @@ pub enum Write {
     Uart { port: u8, config: Uart },
 }
 
-impl Write {
+impl<'a> Write<'a> {
     /// A write's data as what it asks for: refusals 9, 10 and 11, in this order, with the
     /// exceptions that document 01 makes under 35h, 38h and 2Bh.
-    pub fn parse(opcode: Opcode, data: &[u8]) -> Result<Self, Refusal> {
+    pub fn parse(opcode: Opcode, data: &'a [u8]) -> Result<Self, Refusal> {
         Ok(match opcode {
             Opcode::Display => Write::Display(within(sized(data, 1)?.byte(), 0..=4)?),
             Opcode::LowLatency => Write::LowLatency(sized(data, 1)?.flag()?),
@@ -211,7 +220,7 @@ impl Write {
 
     /// 2Bh: compression, colour, count, start, words. Count 0 is refusal 10; flag 1 is refusal 11
     /// before any word is judged.
-    fn parse_gains(data: &[u8]) -> Result<Self, Refusal> {
+    fn parse_gains(data: &'a [u8]) -> Result<Self, Refusal> {
         let (head, words) = data.split_at_checked(6).ok_or(Refusal::Size)?;
         let mut fields = Fields::new(head);
         let (compression, colour, count, start) =
@@ -225,25 +234,25 @@ impl Write {
         if compression == 1 {
             return Err(Refusal::NotCarried);
         }
-        let words = Fields::new(words).all(Fields::word);
-        if words.iter().any(|word| *word > 8191) {
+        let words = Fields::new(words).all();
+        if words.iter().any(|word| u16::from_le_bytes(*word) > 8191) {
             return Err(Refusal::Range);
         }
         Ok(Write::Gains { target, start, words })
     }
 
     /// 34h: start, then n ≥ 1 points of 4 bytes.
-    fn parse_map(data: &[u8]) -> Result<Self, Refusal> {
+    fn parse_map(data: &'a [u8]) -> Result<Self, Refusal> {
         if data.len() < 6 || data.len() % 4 != 2 {
             return Err(Refusal::Size);
         }
         let mut fields = Fields::new(data);
-        Ok(Write::Map { start: fields.word(), points: fields.all(Point::take) })
+        Ok(Write::Map { start: fields.word(), points: fields.all() })
     }
 
     /// 35h: a write without its mode byte is refusal 9, a mode above 1 is refusal 10 whatever the
     /// size.
-    fn parse_control_points(data: &[u8]) -> Result<Self, Refusal> {
+    fn parse_control_points(data: &'a [u8]) -> Result<Self, Refusal> {
         let (mode, rest) = data.split_first().ok_or(Refusal::Size)?;
         Ok(Write::ControlPoints(match mode {
             0 => ControlPoints::take_even(&mut sized(rest, 4)?)?,
@@ -254,12 +263,12 @@ impl Write {
 
     /// 38h: a write without both its counts is refusal 9, columns or rows out of range are refusal
     /// 10 whatever the size.
-    fn parse_smooth_table(data: &[u8]) -> Result<Self, Refusal> {
+    fn parse_smooth_table(data: &'a [u8]) -> Result<Self, Refusal> {
         let (counts, points) = data.split_at_checked(2).ok_or(Refusal::Size)?;
         let columns = within(counts[0], 3..=5)?;
         let rows = within(counts[1], 3..=5)?;
         let mut fields = sized(points, 4 * usize::from(columns) * usize::from(rows))?;
-        Ok(Write::SmoothTable { columns, rows, points: fields.all(Point::take) })
+        Ok(Write::SmoothTable { columns, rows, points: fields.all() })
     }
 
     pub fn opcode(&self) -> Opcode {
@@ -297,13 +306,13 @@ impl Write {
             }
             Write::Look(look) => look.to_le_bytes().to_vec(),
             Write::Gains { target, start, words } => {
-                let head = word_bytes(&[words.len() as u16, *start]);
-                [&[0, target.byte()][..], &head, &word_bytes(words)].concat()
+                let (count, start) = ((words.len() as u16).to_le_bytes(), start.to_le_bytes());
+                [&[0, target.byte()], &count[..], &start, words.as_flattened()].concat()
             }
-            Write::Map { start, points } => [&start.to_le_bytes()[..], &point_bytes(points)].concat(),
+            Write::Map { start, points } => [&start.to_le_bytes(), points.as_flattened()].concat(),
             Write::ControlPoints(written) => written.bytes(),
             Write::SmoothTable { columns, rows, points } => {
-                [&[*columns, *rows][..], &point_bytes(points)].concat()
+                [&[*columns, *rows], points.as_flattened()].concat()
             }
             Write::UpdateMode => vec![0],
             Write::Pin { pin, config } => [&[*pin][..], &config.bytes()].concat(),
@@ -409,9 +418,9 @@ impl Read {
     pub fn data(&self) -> Vec<u8> {
         match *self {
             Read::Gains { colour, start, count } => {
-                [&[colour as u8][..], &word_bytes(&[start, count])].concat()
+                [&[colour as u8][..], &start.to_le_bytes(), &count.to_le_bytes()].concat()
             }
-            Read::Map { start, count } => word_bytes(&[start, count]),
+            Read::Map { start, count } => [start.to_le_bytes(), count.to_le_bytes()].concat(),
             Read::Pin(number) | Read::PinLevel(number) | Read::Pwm(number) | Read::Uart(number) => {
                 vec![number]
             }
@@ -421,15 +430,15 @@ impl Read {
 }
 
 /// A command: what reading ends in, apart from the options.
-#[derive(Clone, Debug, PartialEq, Eq)]
-pub enum Command {
-    Write(Write),
+#[derive(Clone, Copy, Debug, PartialEq, Eq)]
+pub enum Command<'a> {
+    Write(Write<'a>),
     Read(Read),
 }
 
-impl Command {
+impl<'a> Command<'a> {
     /// Refusals 9, 10 and 11.
-    pub fn parse(direction: Direction, opcode: Opcode, data: &[u8]) -> Result<Self, Refusal> {
+    pub fn parse(direction: Direction, opcode: Opcode, data: &'a [u8]) -> Result<Self, Refusal> {
         match direction {
             Direction::Write => Write::parse(opcode, data).map(Command::Write),
             Direction::Read => Read::parse(opcode, data).map(Command::Read),

@@ -2,6 +2,9 @@
 
 use std::ops::RangeInclusive;
 
+/// A 16-bit number as it lies in packets, tables and the block.
+pub type Word = [u8; 2];
+
 /// The sum of the bytes, modulo 256 ("Packet": house rule for the one byte sent).
 pub fn checksum(bytes: &[u8]) -> u8 {
     bytes.iter().fold(0, |sum, byte| sum.wrapping_add(*byte))
@@ -26,24 +29,24 @@ impl<'a> Fields<'a> {
         Fields { rest: bytes }
     }
 
-    fn take<const N: usize>(&mut self) -> [u8; N] {
+    fn take<const N: usize>(&mut self) -> &'a [u8; N] {
         let (field, rest) = self.rest.split_first_chunk().expect("the size was judged first");
         self.rest = rest;
-        *field
+        field
     }
 
     pub fn byte(&mut self) -> u8 {
-        u8::from_le_bytes(self.take())
+        u8::from_le_bytes(*self.take())
     }
 
     /// A 16-bit number.
     pub fn word(&mut self) -> u16 {
-        u16::from_le_bytes(self.take())
+        u16::from_le_bytes(*self.take())
     }
 
     /// A 32-bit number.
     pub fn long(&mut self) -> u32 {
-        u32::from_le_bytes(self.take())
+        u32::from_le_bytes(*self.take())
     }
 
     /// A byte that is 0 or 1.
@@ -51,17 +54,29 @@ impl<'a> Fields<'a> {
         Ok(within(self.byte(), 0..=1)? == 1)
     }
 
-    /// What `take` makes of each of the next `N` fields.
-    pub fn array<T, const N: usize>(&mut self, mut take: impl FnMut(&mut Self) -> T) -> [T; N] {
-        std::array::from_fn(|_| take(self))
+    /// The next `N` numbers of `W` bytes, where they lie.
+    pub fn array<const W: usize, const N: usize>(&mut self) -> &'a [[u8; W]; N] {
+        let (numbers, rest) = self.rest.split_at(W * N);
+        self.rest = rest;
+        numbers.as_chunks().0.try_into().expect("N of them were split off")
     }
 
-    /// What `take` makes of each field up to the end.
-    pub fn all<T>(&mut self, mut take: impl FnMut(&mut Self) -> T) -> Vec<T> {
-        let mut values = Vec::new();
-        while !self.rest.is_empty() {
-            values.push(take(self));
+    /// What `take` makes of each of the next `N` fields.
+    pub fn each<T: Copy + Default, const N: usize>(
+        &mut self,
+        take: impl Fn(&mut Self) -> Result<T, OutOfRange>,
+    ) -> Result<[T; N], OutOfRange> {
+        let mut values = [T::default(); N];
+        for value in &mut values {
+            *value = take(self)?;
         }
-        values
+        Ok(values)
+    }
+
+    /// The numbers of `W` bytes up to the end, where they lie.
+    pub fn all<const W: usize>(&mut self) -> &'a [[u8; W]] {
+        let (numbers, rest) = self.rest.as_chunks();
+        self.rest = rest;
+        numbers
     }
 }

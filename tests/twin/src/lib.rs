@@ -6,16 +6,20 @@
 //!
 //! - [`command`]: the eighteen commands, their data sizes and ranges (refusals 9, 10 and 11);
 //! - [`packet`]: reading (refusals 2 to 11) and making;
-//! - [`reply`]: reply making and reading;
+//! - [`reply`]: reply writing and reading;
 //! - [`settings`]: the typed settings, their ranges and their values after reset;
-//! - [`state`]: one packet on settings and tables (refusal 12, effects, the reply).
+//! - [`block`]: the layout of the settings block, both ways (refusal 1);
+//! - [`front_end`]: one packet on what a host lends (refusals 1 and 12, effects, the reply), and reset;
+//! - [`scripts`]: sessions by hand, each packet with its answer.
 
 #[cfg(test)]
 mod bench_packets;
+pub mod block;
 pub mod command;
 pub mod fields;
+pub mod front_end;
 pub mod packet;
 pub mod refusal;
 pub mod reply;
+pub mod scripts;
 pub mod settings;
-pub mod state;

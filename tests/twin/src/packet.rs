@@ -58,6 +58,11 @@ impl Header {
         }
     }
 
+    /// Whether a packet with this header gets a reply: a read, or one that asks for it.
+    pub fn is_replied_to(self) -> bool {
+        self.direction == Direction::Read || self.options.reply_requested
+    }
+
     pub fn byte(self) -> u8 {
         let options = self.options;
         self.destination
@@ -72,13 +77,13 @@ impl Header {
 /// What reading ends in, unless it is refused: a command with its four options, and where in the
 /// packet its data is.
 #[derive(Clone, Debug, PartialEq, Eq)]
-pub struct Reading {
-    pub command: Command,
+pub struct Reading<'a> {
+    pub command: Command<'a>,
     pub options: Options,
     pub place: Range<usize>,
 }
 
-impl Reading {
+impl Reading<'_> {
     /// The header of the packet read.
     pub fn header(&self) -> Header {
         Header { destination: DESTINATION, options: self.options, direction: self.command.direction() }
@@ -86,7 +91,7 @@ impl Reading {
 }
 
 /// Reading, apart from all state: refusals 2 to 11, tried in their order.
-pub fn read(packet: &[u8]) -> Result<Reading, Refusal> {
+pub fn read(packet: &[u8]) -> Result<Reading<'_>, Refusal> {
     let header = Header::from_byte(*packet.first().ok_or(Refusal::TooShort)?);
     let options = header.options;
     if packet.len() < options.overhead() {
@@ -145,7 +150,7 @@ pub fn assemble(options: Options, command: &Command) -> Vec<u8> {
 }
 
 /// Refusals 7 to 11: the opcode, the length field that some writes need, and the data.
-fn judge(header: Header, opcode: u16, data: &[u8]) -> Result<Command, Refusal> {
+fn judge(header: Header, opcode: u16, data: &[u8]) -> Result<Command<'_>, Refusal> {
     let opcode = Opcode::find(opcode).ok_or(Refusal::Opcode)?;
     let needs_length = opcode.is_variable() && header.direction == Direction::Write;
     if needs_length && !header.options.length_present {

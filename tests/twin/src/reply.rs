@@ -17,15 +17,21 @@ pub struct Reply<'a> {
     pub data: &'a [u8],
 }
 
-/// The bytes of a reply, with a checksum over the rest if the packet's bit 5 is set.
-pub fn make(reply: Reply, with_checksum: bool) -> Vec<u8> {
-    let mut bytes = vec![reply.status];
-    bytes.extend((reply.data.len() as u16).to_le_bytes());
-    bytes.extend(reply.data);
+/// Writes a reply at the start of the buffer, its data given in two parts, with a checksum over the
+/// rest if the packet's bit 5 is set. Gives the reply's length.
+pub fn write(buffer: &mut [u8], status: u8, data: [&[u8]; 2], with_checksum: bool) -> usize {
+    let (head, rest) = buffer.split_at_mut(HEAD);
+    let [first, second] = data;
+    let size = first.len() + second.len();
+    head[0] = status;
+    head[1..].copy_from_slice(&(size as u16).to_le_bytes());
+    rest[..first.len()].copy_from_slice(first);
+    rest[first.len()..size].copy_from_slice(second);
+    let end = HEAD + size;
     if with_checksum {
-        bytes.push(checksum(&bytes));
+        buffer[end] = checksum(&buffer[..end]);
     }
-    bytes
+    end + usize::from(with_checksum)
 }
 
 /// Reply reading: refusals 2, 3, 4, 5 and 10, in this order.

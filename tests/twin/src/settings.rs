@@ -1,6 +1,6 @@
 //! The settings that commands write and read, typed, with their ranges and their values after reset.
 
-use crate::fields::{within, Fields, OutOfRange};
+use crate::fields::{within, Fields, OutOfRange, Word};
 
 /// Columns of a full warp map.
 pub const COLUMNS: usize = 62;
@@ -8,6 +8,8 @@ pub const COLUMNS: usize = 62;
 pub const ROWS: usize = 32;
 /// Points of a warp map ("1,984 decides").
 pub const POINTS: usize = COLUMNS * ROWS;
+/// Points of a full smooth table.
+pub const SMOOTH_POINTS: usize = 25;
 /// Gains of one colour.
 pub const GAINS: usize = 2016;
 /// Pins of 60h and 61h.
@@ -17,32 +19,18 @@ pub const PWM_PORTS: [u8; 12] = [0, 1, 2, 3, 4, 5, 6, 7, 8, 9, 10, 13];
 /// Ports of 6Dh.
 pub const UARTS: usize = 3;
 
-/// A warp map point, any 16-bit x and y (13.3 fixed point).
-#[derive(Clone, Copy, Debug, Default, PartialEq, Eq)]
-pub struct Point {
-    pub x: u16,
-    pub y: u16,
-}
+/// A warp map point as it lies in packets, tables and the block: x, then y, any 16 bits each (13.3
+/// fixed point).
+pub type Point = [u8; 4];
 
-impl Point {
-    pub fn take(fields: &mut Fields) -> Self {
-        Point { x: fields.word(), y: fields.word() }
-    }
+/// The two lists of 35h as they lie there: 62 entries for the columns, then 32 for the rows.
+pub type Lists = [Word; COLUMNS + ROWS];
 
-    pub fn bytes(self) -> [u8; 4] {
-        let [[a, b], [c, d]] = [self.x, self.y].map(u16::to_le_bytes);
-        [a, b, c, d]
-    }
-}
-
-/// The bytes of points, one after the other.
-pub fn point_bytes(points: &[Point]) -> Vec<u8> {
-    points.iter().flat_map(|point| point.bytes()).collect()
-}
-
-/// The bytes of 16-bit numbers, one after the other.
-pub fn word_bytes(words: &[u16]) -> Vec<u8> {
-    words.iter().flat_map(|word| word.to_le_bytes()).collect()
+/// Each of the two lists strictly rising (house).
+pub fn rising(lists: &Lists) -> Result<&Lists, OutOfRange> {
+    let rises = |list: &[Word]| list.is_sorted_by(|a, b| u16::from_le_bytes(*a) < u16::from_le_bytes(*b));
+    let (columns, rows) = lists.split_at(COLUMNS);
+    (rises(columns) && rises(rows)).then_some(lists).ok_or(OutOfRange)
 }
 
 /// 1Ah: colour 0, 2-8.
@@ -153,42 +141,16 @@ impl Uart {
     }
 }
 
-/// The two lists of 35h, each strictly rising (house).
-#[derive(Clone, Copy, Debug, PartialEq, Eq)]
-pub struct Lists {
-    pub columns: [u16; COLUMNS],
-    pub rows: [u16; ROWS],
-}
-
-impl Lists {
-    pub fn take(fields: &mut Fields) -> Result<Self, OutOfRange> {
-        let lists = Lists { columns: fields.array(Fields::word), rows: fields.array(Fields::word) };
-        let rising = lists.columns.is_sorted_by(|a, b| a < b) && lists.rows.is_sorted_by(|a, b| a < b);
-        rising.then_some(lists).ok_or(OutOfRange)
-    }
-
-    pub fn bytes(&self) -> Vec<u8> {
-        [word_bytes(&self.columns), word_bytes(&self.rows)].concat()
-    }
-}
-
-impl Default for Lists {
-    /// "Reset: ... lists 0, 1, 2 and so on."
-    fn default() -> Self {
-        Lists { columns: std::array::from_fn(|i| i as u16), rows: std::array::from_fn(|i| i as u16) }
-    }
-}
-
 /// What a 35h write carries.
 #[derive(Clone, Copy, Debug, PartialEq, Eq)]
-pub enum ControlPoints {
+pub enum ControlPoints<'a> {
     /// Mode 0: columns 2-62 and rows 2-32 (house widths and lower ends).
     Even { columns: u16, rows: u16 },
     /// Mode 1: the two lists; the shape is 62 × 32.
-    Listed(Lists),
+    Listed(&'a Lists),
 }
 
-impl ControlPoints {
+impl<'a> ControlPoints<'a> {
     /// Mode 0's two numbers.
     pub fn take_even(fields: &mut Fields) -> Result<Self, OutOfRange> {
         Ok(ControlPoints::Even {
@@ -198,15 +160,17 @@ impl ControlPoints {
     }
 
     /// Mode 1's two lists.
-    pub fn take_listed(fields: &mut Fields) -> Result<Self, OutOfRange> {
-        Ok(ControlPoints::Listed(Lists::take(fields)?))
+    pub fn take_listed(fields: &mut Fields<'a>) -> Result<Self, OutOfRange> {
+        Ok(ControlPoints::Listed(rising(fields.array())?))
     }
 
-    /// The written form, which a read returns.
+    /// The written form.
     pub fn bytes(&self) -> Vec<u8> {
         match self {
-            ControlPoints::Even { columns, rows } => [&[0][..], &word_bytes(&[*columns, *rows])].concat(),
-            ControlPoints::Listed(lists) => [&[1][..], &lists.bytes()].concat(),
+            ControlPoints::Even { columns, rows } => {
+                [&[0][..], &columns.to_le_bytes(), &rows.to_le_bytes()].concat()
+            }
+            ControlPoints::Listed(lists) => [&[1], lists.as_flattened()].concat(),
         }
     }
 }
@@ -221,33 +185,28 @@ pub struct Shape {
 }
 
 impl Shape {
-    /// A 35h write. Mode 0 keeps the two lists stored.
-    pub fn write(&mut self, written: &ControlPoints) {
-        *self = match *written {
-            ControlPoints::Even { columns, rows } => Shape { listed: false, columns, rows, ..*self },
-            ControlPoints::Listed(lists) => Shape { listed: true, lists, ..Shape::default() },
-        }
+    /// A shape that was judged.
+    pub fn take(fields: &mut Fields) -> Result<Self, OutOfRange> {
+        let listed = fields.flag()?;
+        Ok(Shape { listed, columns: fields.word(), rows: fields.word(), lists: *fields.array() })
     }
 
-    /// What a 35h read returns: the written form.
-    pub fn control_points(&self) -> ControlPoints {
-        if self.listed {
-            ControlPoints::Listed(self.lists)
-        } else {
-            ControlPoints::Even { columns: self.columns, rows: self.rows }
-        }
-    }
-
-    /// The points that start + count of 34h may not pass.
-    pub fn points(&self) -> usize {
-        usize::from(self.columns) * usize::from(self.rows)
+    pub fn bytes(&self) -> Vec<u8> {
+        let (columns, rows) = (self.columns.to_le_bytes(), self.rows.to_le_bytes());
+        [&[self.listed.into()], &columns[..], &rows, self.lists.as_flattened()].concat()
     }
 }
 
 impl Default for Shape {
-    /// "Reset: ... shape 62 × 32 in mode 0."
+    /// "Reset: ... shape 62 × 32 in mode 0 (staged and live), lists 0, 1, 2 and so on."
     fn default() -> Self {
-        Shape { listed: false, columns: COLUMNS as u16, rows: ROWS as u16, lists: Lists::default() }
+        let number = |i| if i < COLUMNS { i } else { i - COLUMNS } as u16;
+        Shape {
+            listed: false,
+            columns: COLUMNS as u16,
+            rows: ROWS as u16,
+            lists: std::array::from_fn(|i| number(i).to_le_bytes()),
+        }
     }
 }
 
@@ -256,31 +215,28 @@ impl Default for Shape {
 pub struct SmoothTable {
     pub columns: u8,
     pub rows: u8,
-    pub points: [Point; 25],
+    pub points: [Point; SMOOTH_POINTS],
 }
 
 impl SmoothTable {
-    /// A 38h write; stored points past these stay.
-    pub fn write(&mut self, columns: u8, rows: u8, points: &[Point]) {
-        (self.columns, self.rows) = (columns, rows);
-        self.points[..points.len()].copy_from_slice(points);
+    /// A table that was judged.
+    pub fn take(fields: &mut Fields) -> Self {
+        SmoothTable { columns: fields.byte(), rows: fields.byte(), points: *fields.array() }
     }
 
-    /// What a 38h read returns: the written form.
     pub fn bytes(&self) -> Vec<u8> {
-        let used = usize::from(self.columns) * usize::from(self.rows);
-        [&[self.columns, self.rows][..], &point_bytes(&self.points[..used])].concat()
+        [&[self.columns, self.rows], self.points.as_flattened()].concat()
     }
 }
 
 impl Default for SmoothTable {
     /// "Reset: ... smooth shape 3 × 3."
     fn default() -> Self {
-        SmoothTable { columns: 3, rows: 3, points: Default::default() }
+        SmoothTable { columns: 3, rows: 3, points: [[0; 4]; SMOOTH_POINTS] }
     }
 }
 
-/// All settings. Those without a field are always 0 (39h).
+/// All settings, in the order of the block.
 #[derive(Clone, Debug, PartialEq, Eq)]
 pub struct Settings {
     pub display: u8,
@@ -294,6 +250,8 @@ pub struct Settings {
     pub enable: bool,
     pub live: Shape,
     pub smooth: SmoothTable,
+    /// 0: merge mode isn't carried.
+    pub update_mode: u8,
     pub pins: [Pin; PINS],
     pub pwms: [Pwm; PWM_PORTS.len()],
     pub eeprom_lock: bool,
@@ -315,6 +273,7 @@ impl Default for Settings {
             enable: false,
             live: Shape::default(),
             smooth: SmoothTable::default(),
+            update_mode: 0,
             pins: [Pin::default(); PINS],
             pwms: Default::default(),
             eeprom_lock: false,

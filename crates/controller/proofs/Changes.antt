@@ -1,0 +1,178 @@
+-- What a packet changes: nothing, unless it is an accepted write. Such a write copies into the block at most once, ends where the settings
+-- end and writes beside the live shape; one that applies copies twice.
+use Prim.Native.Nat.{ℕ, _+_, _*_, _-_, _≤_, min}
+use mathlib.Core.Path.{_≡_, refl, _∙_}
+use mathlib.Core.Bool.{Bool, true, false, cond, and-false}
+use mathlib.Core.List.{List, [], _∷_, _++_}
+use native.Mathlib.Decide.{ℕ-discrete}
+use native.Mathlib.Omega.{arith}
+use borrow.Author.Tests.{eq-eqb, ne-eqb}
+use lib.ListN.{length, drop, length-append, length-drop}
+use lib.Seq.{paste, length-paste}
+use Rattle.wire.specs.First.{first}
+use Rattle.wire.specs.Numbers.{byteAt}
+use Rattle.opcode.specs.Options.{optionsIn, isRead}
+use Rattle.opcode.specs.Commands.{commandOf, fixed}
+use Rattle.opcode.specs.Judgement.{judgement}
+use Rattle.opcode.specs.Allowed.{WriteData, Allowed}
+use Rattle.opcode.proofs.Accepts.Tests.{first-silent}
+use Rattle.opcode.proofs.Accepts.Commands.{of-carried}
+use Rattle.opcode.proofs.Accepts.Writes.{silent-write, silent-length}
+use Rattle.packet.specs.Frame.{headerOf, opcodeOf, place, dataSize, dataOf}
+use Rattle.settings.specs.Layout.{placeOf, placeIn, places, slot}
+use Rattle.settings.proofs.Fits.{place-fits, write-long}
+use Rattle.controller.specs.State.{State, stopped}
+use Rattle.controller.specs.Commands.{shapeBytes, writeShape, applyBlock, writeSmooth, blockAfter, written}
+use Rattle.controller.specs.Step.{readAndPlaced, decision, numberOf, step}
+use Rattle.controller.specs.Demands.{Lent}
+use Rattle.controller.proofs.Bounds.{Commanded, commanded, write-data}
+use Rattle.controller.proofs.Sizes.{smooth-size, fixed-rest}
+use Rattle.controller.proofs.Demands.{lent}
+
+-- A packet whose number is 0: what is lent is right, and it is a command.
+pub record Passed (p : List ℕ) (s : State) (reply : List ℕ) : Type 0 where
+  pub lent : Lent s reply
+  pub command : Commanded p (s .block) (opcodeOf p) (optionsIn (headerOf p)) (place (headerOf p)) (dataSize p)
+
+pub passed : (p : List ℕ) (s : State) (reply : List ℕ) → numberOf p s reply ≡ 0 → Passed p s reply
+unfolding numberOf decision
+passed p s reply e = go (stopped s reply) refl e
+  where
+    go : (b : Bool) → stopped s reply ≡ b → cond b 1 (first (readAndPlaced p (s .block))) ≡ 0 → Passed p s reply
+    go true t h = absurd (omega arith)
+    go false t h =
+        record {
+          lent = lent s reply t;
+          command = commanded p (s .block) (opcodeOf p) (optionsIn (headerOf p)) (place (headerOf p)) (dataSize p) (rw h);
+        }
+
+-- One packet: the state stays, or it is what an accepted write leaves.
+pub data Way (p : List ℕ) (s : State) (reply : List ℕ) : Type 0 where
+  same : step p s reply .state ≡ s → Way p s reply
+  wrote : step p s reply .status ≡ 0 → isRead (headerOf p) ≡ 0 → Passed p s reply → step p s reply .state ≡ written (opcodeOf p) (dataOf p) s
+      → Way p s reply
+
+pub way : (p : List ℕ) (s : State) (reply : List ℕ) → Way p s reply
+unfolding step
+way p s reply =
+    elim (ℕ-discrete (numberOf p s reply) 0) [
+      | no e ↦ Way.same (rw (ne-eqb (numberOf p s reply) 0 e))
+      | yes e ↦
+          elim (ℕ-discrete (isRead (headerOf p)) 1) [
+            | yes r ↦ Way.same (rw (eq-eqb (isRead (headerOf p)) 1 r, and-false))
+            | no r ↦ Way.wrote e (omega arith) (passed p s reply e) (rw (e, ne-eqb (isRead (headerOf p)) 1 r))
+          ]
+    ]
+
+-- ---- The block.
+
+-- A copy of n elements into the block: it ends where the settings end, and lies beside the live shape.
+pub record Copy (from : List ℕ) (to n : ℕ) : Type 0 where
+  pub ends : to + n ≤ 865
+  pub beside : min (395 - to) (to + n - 202) ≡ 0
+  pub long : n ≤ length from
+
+-- An accepted 36h write of 1 copies twice: enable, and then the staged shape to the live one's place.
+abbrev pub enabled : List ℕ → List ℕ
+enabled block = paste block 201 (1 ∷ []) 1
+
+pub enabled-long : (block : List ℕ) → length block ≡ 1024 → length (enabled block) ≡ 1024
+enabled-long block l = length-paste block 201 (1 ∷ []) 1 (omega arith) (omega arith) ∙ l
+
+pub applied-long : (block : List ℕ) → length block ≡ 1024 → length (paste (enabled block) 202 (drop 8 block) 193) ≡ 1024
+applied-long block l =
+    let long = enabled-long block l in
+    length-paste (enabled block) 202 (drop 8 block) 193 (omega arith) (rw length-drop (omega arith)) ∙ long
+
+pub data Change (op : ℕ) (d block after : List ℕ) : Type 0 where
+  none : after ≡ block → Change op d block after
+  copied : (from : List ℕ) (to n : ℕ) → Copy from to n → after ≡ paste block to from n → Change op d block after
+  applied : op ≡ 0x36 → byteAt d 0 ≡ 1 → after ≡ paste (enabled block) 202 (drop 8 block) 193 → Change op d block after
+
+-- Computed for every command: its place lies behind the live shape; or it has one place alone, before it.
+abbrev Aside : ℕ → Type 0
+Aside op = min (395 - placeIn op places .first) (placeIn op places .first + 1000 * placeIn op places .step + commandOf op .back - 202) ≡ 0
+
+-- A command with several places has all of them behind the live shape.
+far : (at by back : ℕ) → min (395 - at) (at + 1000 * by + back - 202) ≡ 0 → 1 ≤ by → 395 ≤ at
+far at by back h some = omega arith
+
+beside-far : (at n : ℕ) → 395 ≤ at → min (395 - at) (at + n - 202) ≡ 0
+beside-far at n h = omega arith
+
+aside-place : (at by times back : ℕ) → min (395 - at) (at + 1000 * by + back - 202) ≡ 0
+    → min (395 - (at + by * times)) (at + by * times + back - 202) ≡ 0
+aside-place at by times back h =
+    elim (ℕ-discrete by 0) [
+      | yes e ↦
+          let here : at + by * times ≡ at = rw e (omega arith) in
+          let once : at + 1000 * by + back ≡ at + back = omega arith in
+          rw here (rw once at h)
+      | no e ↦ beside-far (at + by * times) back (omega (arith, far at by back h (omega arith)))
+    ]
+
+module _ (op o : ℕ) (d : List ℕ) (h : isRead o ≡ 0) (e : first (judgement op o d) ≡ 0) where
+  pub write-allowed : Allowed op o d
+  unfolding judgement
+  write-allowed =
+      let silent = first-silent (judgement op o d) (omega arith) e in
+      Allowed.sets h (silent-write op o d h silent) (silent-length op o d h silent)
+
+  aside : Aside op
+  unfolding judgement commandOf
+  aside = of-carried Aside (omega arith) op (first-silent (judgement op o d) (omega arith) e .0)
+
+  fixed-copy : commandOf op .mark ≡ fixed → Copy (drop (commandOf op .read) d) (placeOf op d) (commandOf op .back)
+  unfolding placeOf
+  fixed-copy m =
+      record {
+        ends = place-fits write-allowed m;
+        beside = aside-place (placeIn op places .first) (placeIn op places .step) (slot op (byteAt d 0)) (commandOf op .back) aside;
+        long = rw length-drop (omega (arith, write-long write-allowed h m));
+      }
+
+shape-copy : {d : List ℕ} → WriteData 0x35 d → Copy (shapeBytes d) 8 (length (shapeBytes d))
+unfolding shapeBytes
+shape-copy (WriteData.shape h i j k) = omega arith
+shape-copy (WriteData.lists xs ys ex ey rx ry) =
+    let long : length (xs ++ ys) ≡ 188 = rw length-append (omega arith) in omega arith
+
+smooth-copy : {d : List ℕ} → WriteData 0x38 d → Copy d 395 (length d)
+smooth-copy w = let long = smooth-size w in omega arith
+
+-- What a write that is accepted leaves of the block.
+pub changed : (op o : ℕ) (d block : List ℕ) → isRead o ≡ 0 → first (judgement op o d) ≡ 0 → Change op d block (blockAfter op d block)
+unfolding blockAfter writeShape applyBlock writeSmooth
+changed op o d block h e =
+    elim (ℕ-discrete op 0x2B) [
+      | yes g ↦ Change.none (rw g)
+      | no g ↦
+          elim (ℕ-discrete op 0x34) [
+            | yes m ↦ Change.none (rw m)
+            | no m ↦
+                elim (ℕ-discrete op 0x35) [
+                  | yes c ↦ Change.copied (shapeBytes d) 8 (length (shapeBytes d)) (shape-copy (write-data 0x35 o d h (rw c at e))) (rw c)
+                  | no c ↦
+                      elim (ℕ-discrete op 0x36) [
+                        | yes a ↦
+                            elim (ℕ-discrete (byteAt d 0) 1) [
+                              | yes v ↦ Change.applied a v (rw (a, v))
+                              | no v ↦ Change.copied (0 ∷ []) 201 1 (omega arith) (rw (a, ne-eqb (byteAt d 0) 1 v))
+                            ]
+                        | no a ↦
+                            elim (ℕ-discrete op 0x38) [
+                              | yes t ↦ Change.copied d 395 (length d) (smooth-copy (write-data 0x38 o d h (rw t at e))) (rw t)
+                              | no t ↦
+                                  Change.copied (drop (commandOf op .read) d) (placeOf op d) (commandOf op .back)
+                                  (fixed-copy op o d h e (fixed-rest op o d e g m c t))
+                                  (rw (ne-eqb op 0x2B g, ne-eqb op 0x34 m, ne-eqb op 0x35 c, ne-eqb op 0x36 a, ne-eqb op 0x38 t))
+                            ]
+                      ]
+                ]
+          ]
+    ]
+
+pub changed-long : {op : ℕ} {d block after : List ℕ} → Change op d block after → length block ≡ 1024 → length after ≡ 1024
+changed-long (Change.none e) l = rw e l
+changed-long {op} {d} {block} (Change.copied from to n c e) l = rw (e, length-paste block to from n (omega arith) (c .long)) l
+changed-long {op} {d} {block} (Change.applied a v e) l = rw e (applied-long block l)

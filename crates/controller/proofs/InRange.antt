@@ -1,0 +1,296 @@
+-- Every packet leaves a state in range, lengths included: a write changes one run of settings, to what the same tests take, and keeps the
+-- others; a table keeps its length, since what is written lies within it.
+use Prim.Native.Nat.{ℕ, _+_, _*_, _-_, _≤_, _<_, min}
+use mathlib.Core.Path.{_≡_, refl, _∙_}
+use mathlib.Core.Bool.{true, false}
+use mathlib.Core.List.{List, [], _∷_, _++_}
+use native.Mathlib.Decide.{ℕ-discrete}
+use native.Mathlib.Omega.{arith}
+use borrow.Author.Tests.{ne-eqb}
+use lib.ListN.{length, drop, getD, length-append, length-drop}
+use lib.Seq.{paste, length-paste, getD-drop, take-at, drop-at, take-all}
+use lib.Dec.{eqb}
+use Rattle.wire.specs.First.{first}
+use Rattle.wire.specs.Buffers.{over}
+use Rattle.wire.specs.Numbers.{byteAt, wordAt}
+use Rattle.wire.specs.Tables.{words}
+use Rattle.wire.proofs.Tables.{length-pairs}
+use Rattle.opcode.specs.Fields.{wordsAt, rise}
+use Rattle.opcode.specs.Options.{optionsIn, isRead}
+use Rattle.opcode.specs.Commands.{commandOf, fixed}
+use Rattle.opcode.specs.Judgement.{judgement}
+use Rattle.opcode.specs.Allowed.{Rising, WriteData}
+use Rattle.opcode.proofs.Accepts.Tests.{told}
+use Rattle.opcode.proofs.Accepts.Lists.{words-part, rising-rise}
+use Rattle.packet.specs.Frame.{headerOf, opcodeOf, dataOf}
+use Rattle.packet.specs.Points.{writePoints, startOf, pointsOf}
+use Rattle.packet.proofs.Exactly.{bytes-of-data}
+use Rattle.settings.specs.Layout.{placeOf, stored}
+use Rattle.settings.specs.Ranges.{right, fieldsOf, pictureFields, deviceFields, rising, shapeRight, settingsRight}
+use Rattle.settings.proofs.Same.{Same, front, widths, right-same, words-same, shape-same, paste-there, paste-apart}
+use Rattle.settings.proofs.Stays.{Parts, parts, whole, kept, kept-shape, all-right, stays}
+use Rattle.controller.specs.State.{State}
+use Rattle.controller.specs.Commands.{gainsWords, gainsInto, writeGains, shapeBytes, writeShape, applyBlock, applyLive, writeSmooth, blockAfter, written, runsPast}
+use Rattle.controller.specs.Step.{numberOf, replyTo, step}
+use Rattle.controller.specs.Granted.{PointsWrite, GainsWrite}
+use Rattle.controller.specs.Demands.{Lent}
+use Rattle.controller.proofs.Bounds.{write-data, points-write, gains-write}
+use Rattle.controller.proofs.Sizes.{smooth-size, fixed-rest}
+use Rattle.controller.proofs.Changes.{Way, way, changed, changed-long, enabled, enabled-long, write-allowed}
+
+-- ---- Settings.
+
+-- A copy between the picture's settings and the device's: the parts that it may change, and those that it lies apart from.
+module _ (block from : List ℕ) (to n : ℕ) (room : to + n ≤ length block) (long : n ≤ length from) (q : Parts block) where
+  between : 8 ≤ to → to + n ≤ 497
+      → shapeRight (paste block to from n) 8 ≡ true
+      → right (fieldsOf 0x36) (paste block to from n) 201 ≡ true
+      → shapeRight (paste block to from n) 202 ≡ true
+      → right (fieldsOf 0x38) (paste block to from n) 395 ≡ true
+      → settingsRight (paste block to from n) ≡ true
+  unfolding widths commandOf pictureFields deviceFields
+  between low high staged enabled live smooth =
+      whole (paste block to from n)
+      (record {
+        picture = kept block from to n room long pictureFields 0 refl (omega arith) (q .picture);
+        staged = staged;
+        enabled = enabled;
+        live = live;
+        smooth = smooth;
+        device = kept block from to n room long deviceFields 497 refl (omega arith) (q .device);
+      })
+
+  staged-kept : 201 ≤ to → shapeRight (paste block to from n) 8 ≡ true
+  staged-kept h = kept-shape block from to n room long 8 (omega arith) (q .staged)
+
+  enabled-kept : min (202 - to) (to + n - 201) ≡ 0 → right (fieldsOf 0x36) (paste block to from n) 201 ≡ true
+  unfolding widths commandOf
+  enabled-kept h = kept block from to n room long (fieldsOf 0x36) 201 refl h (q .enabled)
+
+  live-kept : min (395 - to) (to + n - 202) ≡ 0 → shapeRight (paste block to from n) 202 ≡ true
+  live-kept h = kept-shape block from to n room long 202 h (q .live)
+
+  smooth-kept : to + n ≤ 395 → right (fieldsOf 0x38) (paste block to from n) 395 ≡ true
+  unfolding widths commandOf
+  smooth-kept h = kept block from to n room long (fieldsOf 0x38) 395 refl (omega arith) (q .smooth)
+
+-- 35h in mode 1: 62 columns, 32 rows, and lists that rise.
+rises : (ws : List ℕ) (s : List ℕ) (n : ℕ) → ws ≡ words s → length s ≡ 2 * n → Rising (words s) → rise ws ≡ n
+rises ws s n e l r = rw e (rising-rise r ∙ length-pairs 256 s ∙ omega arith)
+
+lists-right : (xs ys : List ℕ) → length xs ≡ 124 → length ys ≡ 64 → Rising (words xs) → Rising (words ys)
+    → shapeRight (1 ∷ 62 ∷ 0 ∷ 32 ∷ 0 ∷ (xs ++ ys)) 0 ≡ true
+unfolding shapeRight right commandOf
+lists-right xs ys ex ey rx ry =
+    let d : List ℕ = 1 ∷ 62 ∷ 0 ∷ 32 ∷ 0 ∷ (xs ++ ys) in
+    let long : length (xs ++ ys) ≡ 188 = rw length-append (omega arith) in
+    let columns : wordsAt d 5 62 ≡ words xs = words-part 62 d 5 (omega arith) ∙ rw (take-at xs ys 124 ex) in
+    let rows : wordsAt d 129 32 ≡ words ys = words-part 32 d 129 (omega arith) ∙ rw (drop-at xs ys 124 ex, take-all 64 ys (omega arith)) in
+    rw (rises (wordsAt d 5 62) xs 62 columns ex rx, rises (wordsAt d 129 32) ys 32 rows ey ry)
+
+-- In mode 0: the counts written, and the lists as they were.
+counts-right : (block : List ℕ) (c₀ c₁ r₀ r₁ : ℕ) → 13 ≤ length block → shapeRight block 8 ≡ true
+    → right (fieldsOf 0x35) (0 ∷ c₀ ∷ c₁ ∷ r₀ ∷ r₁ ∷ []) 0 ≡ true
+    → shapeRight (paste block 8 (0 ∷ c₀ ∷ c₁ ∷ r₀ ∷ r₁ ∷ []) 5) 8 ≡ true
+unfolding shapeRight widths commandOf
+counts-right block c₀ c₁ r₀ r₁ l old new =
+    let d : List ℕ = 0 ∷ c₀ ∷ c₁ ∷ r₀ ∷ r₁ ∷ [] in
+    let there = paste-there block d 8 5 (omega arith) (omega arith) in
+    let columns : rising block 13 62 ≡ true = search told in
+    let rows : rising block 137 32 ≡ true = search told in
+    let mode : byteAt (paste block 8 d 5) 8 ≡ 0 = there .each 0 (omega arith) in
+    rw (
+      right-same (fieldsOf 0x35) refl there,
+      new,
+      mode,
+      words-same 62 (paste-apart block d 8 5 (omega arith) (omega arith) 13 124 (omega arith)),
+      words-same 32 (paste-apart block d 8 5 (omega arith) (omega arith) 137 64 (omega arith)),
+      columns,
+      rows,
+    )
+
+-- Either way the other settings are kept.
+shape-put : (block from : List ℕ) (n : ℕ) → n ≤ 193 → n ≤ length from → length block ≡ 1024 → settingsRight block ≡ true
+    → shapeRight (paste block 8 from n) 8 ≡ true → settingsRight (paste block 8 from n) ≡ true
+shape-put block from n small long l e new =
+    let room : 8 + n ≤ length block = omega arith in
+    let q = parts block e in
+    between block from 8 n room long q (omega arith) (omega arith) new (enabled-kept block from 8 n room long q (omega arith))
+    (live-kept block from 8 n room long q (omega arith)) (smooth-kept block from 8 n room long q (omega arith))
+
+shape-stays : {d : List ℕ} (block : List ℕ) → WriteData 0x35 d → length block ≡ 1024 → settingsRight block ≡ true
+    → settingsRight (writeShape d block) ≡ true
+unfolding writeShape shapeBytes commandOf
+shape-stays {d} block (WriteData.shape {c₀} {c₁} {r₀} {r₁} h i j k) l e =
+    shape-put block d 5 (omega arith) (omega arith) l e
+    (counts-right block c₀ c₁ r₀ r₁ (omega arith) (parts block e .staged) (all-right (fieldsOf 0x35) (omega arith) d 0 (omega arith)))
+shape-stays {d} block (WriteData.lists xs ys ex ey rx ry) l e =
+    let from : List ℕ = 1 ∷ 62 ∷ 0 ∷ 32 ∷ 0 ∷ (xs ++ ys) in
+    let long : length from ≡ 193 = omega (arith, length-append xs ys) in
+    shape-put block from (length from) (omega arith) (omega arith) l e
+    (shape-same (front (paste-there block from 8 (length from) (omega arith) (omega arith)) 193 (omega arith)) ∙ lists-right xs ys ex ey rx ry)
+
+-- 38h: the two counts.
+smooth-right : {d : List ℕ} → WriteData 0x38 d → (2 ≤ length d) × (right (fieldsOf 0x38) d 0 ≡ true)
+unfolding commandOf
+smooth-right {d} (WriteData.smooth h i j k s) = (omega arith, all-right (fieldsOf 0x38) (omega arith) d 0 (omega arith))
+
+smooth-stays : {d : List ℕ} (block : List ℕ) → WriteData 0x38 d → length block ≡ 1024 → settingsRight block ≡ true
+    → settingsRight (writeSmooth d block) ≡ true
+unfolding writeSmooth widths commandOf
+smooth-stays {d} block w l e =
+    let small : length d ≤ 102 = smooth-size w in
+    let new = smooth-right w in
+    let room : 395 + length d ≤ length block = omega arith in
+    let long : length d ≤ length d = omega arith in
+    let q = parts block e in
+    between block d 395 (length d) room long q (omega arith) (omega arith) (staged-kept block d 395 (length d) room long q (omega arith))
+    (enabled-kept block d 395 (length d) room long q (omega arith))
+    (live-kept block d 395 (length d) room long q (omega arith))
+    (right-same (fieldsOf 0x38) refl (front (paste-there block d 395 (length d) room long) 2 (new .0)) ∙ new .1)
+
+-- 36h: enable as the fixed writes; and the staged shape, in range, stands in the live one's place.
+enable-put : {d : List ℕ} → WriteData 0x36 d → (block : List ℕ) → settingsRight (stored 0x36 d block) ≡ true
+    → settingsRight (paste block 201 (byteAt d 0 ∷ []) 1) ≡ true
+unfolding commandOf placeOf
+enable-put (WriteData.apply {v} h) block e = let here : 201 + 0 * v ≡ 201 = omega arith in rw here at e
+
+enable-zero : {d : List ℕ} → WriteData 0x36 d → (byteAt d 0 ≡ 1 → ⊥) → byteAt d 0 ≡ 0
+enable-zero (WriteData.apply h) v = omega arith
+
+fixed-36 : commandOf 0x36 .mark ≡ fixed
+unfolding commandOf
+fixed-36 = refl
+
+module _ (o : ℕ) (d block : List ℕ) (bytes : (k : ℕ) → getD d k 0 < 256) (h : isRead o ≡ 0) (j : first (judgement 0x36 o d) ≡ 0)
+    (l : length block ≡ 1024) (e : settingsRight block ≡ true) where
+  enable-stays : settingsRight (paste block 201 (byteAt d 0 ∷ []) 1) ≡ true
+  enable-stays =
+      enable-put (write-data 0x36 o d h j) block (stays block bytes (write-allowed 0x36 o d h j) h fixed-36 l e)
+
+  live-put : settingsRight (enabled block) ≡ true → settingsRight (paste (enabled block) 202 (drop 8 block) 193) ≡ true
+  live-put f =
+      let all = enabled-long block l in
+      let room : 202 + 193 ≤ length (enabled block) = omega arith in
+      let long : 193 ≤ length (drop 8 block) = rw length-drop (omega arith) in
+      let q = parts (enabled block) f in
+      let staged : Same (drop 8 block) 0 block 8 193 = record { each = λ k lt. let z : 0 + k ≡ k = omega arith in rw z (getD-drop 8 block k 0) } in
+      between (enabled block) (drop 8 block) 202 193 room long q (omega arith) (omega arith)
+      (staged-kept (enabled block) (drop 8 block) 202 193 room long q (omega arith))
+      (enabled-kept (enabled block) (drop 8 block) 202 193 room long q (omega arith))
+      (shape-same (paste-there (enabled block) (drop 8 block) 202 193 room long) ∙ shape-same staged ∙ parts block e .staged)
+      (smooth-kept (enabled block) (drop 8 block) 202 193 room long q (omega arith))
+
+  apply-stays : settingsRight (applyBlock d block) ≡ true
+  unfolding applyBlock
+  apply-stays =
+      elim (ℕ-discrete (byteAt d 0) 1) [
+        | yes v ↦ rw v (live-put (rw v at enable-stays))
+        | no v ↦
+            let zero : byteAt d 0 ≡ 0 = enable-zero (write-data 0x36 o d h j) v in
+            rw zero (rw zero at enable-stays)
+      ]
+
+settings-stay : (op o : ℕ) (d block : List ℕ) → ((k : ℕ) → getD d k 0 < 256) → isRead o ≡ 0 → first (judgement op o d) ≡ 0
+    → length block ≡ 1024 → settingsRight block ≡ true → settingsRight (blockAfter op d block) ≡ true
+unfolding blockAfter
+settings-stay op o d block bytes h j l e =
+    elim (ℕ-discrete op 0x2B) [
+      | yes g ↦ rw g e
+      | no g ↦
+          elim (ℕ-discrete op 0x34) [
+            | yes m ↦ rw m e
+            | no m ↦
+                elim (ℕ-discrete op 0x35) [
+                  | yes c ↦ rw c (shape-stays block (write-data 0x35 o d h (rw c at j)) l e)
+                  | no c ↦
+                      elim (ℕ-discrete op 0x36) [
+                        | yes a ↦ rw a (apply-stays o d block bytes h (rw a at j) l e)
+                        | no a ↦
+                            elim (ℕ-discrete op 0x38) [
+                              | yes t ↦ rw t (smooth-stays block (write-data 0x38 o d h (rw t at j)) l e)
+                              | no t ↦
+                                  rw (ne-eqb op 0x2B g, ne-eqb op 0x34 m, ne-eqb op 0x35 c, ne-eqb op 0x36 a, ne-eqb op 0x38 t)
+                                  (stays block bytes (write-allowed op o d h j) h (fixed-rest op o d j g m c t) l e)
+                            ]
+                      ]
+                ]
+          ]
+    ]
+
+-- ---- Tables.
+
+points-long : (d staged : List ℕ) → PointsWrite d → length staged ≡ 3968 → length (writePoints (startOf d) (pointsOf d) staged) ≡ 3968
+points-long d staged w l = length-paste staged (2 * startOf d) (pointsOf d) (length (pointsOf d)) (omega arith) (omega arith) ∙ l
+
+into-long : (gains : List ℕ) (place : ℕ) (ws : List ℕ) → length gains ≡ 6048 → place + length ws ≤ 6048 → length (gainsInto gains place ws) ≡ 6048
+into-long gains place ws l h = length-paste gains place ws (length ws) (omega arith) (omega arith) ∙ l
+
+gains-long : (d gains : List ℕ) → GainsWrite d → length gains ≡ 6048 → length (writeGains d gains) ≡ 6048
+unfolding writeGains
+gains-long d gains w l =
+    let ws : List ℕ = gainsWords d in
+    let start : ℕ = wordAt d 4 in
+    elim (ℕ-discrete (byteAt d 1) 0) [
+      | yes z ↦
+          let one = into-long gains start ws l (omega arith) in
+          let two = into-long (gainsInto gains start ws) (2016 + start) ws one (omega arith) in
+          rw z (into-long (gainsInto (gainsInto gains start ws) (2016 + start) ws) (4032 + start) ws two (omega arith))
+      | no z ↦ rw (ne-eqb (byteAt d 1) 0 z) (into-long gains (2016 * (byteAt d 1 - 1) + start) ws l (omega arith))
+    ]
+
+live-long : (d staged live : List ℕ) → length staged ≡ 3968 → length live ≡ 3968 → length (applyLive d staged live) ≡ 3968
+unfolding applyLive
+live-long d staged live ls ll =
+    elim (ℕ-discrete (byteAt d 0) 1) [
+      | yes v ↦ rw v ls
+      | no v ↦ rw (ne-eqb (byteAt d 0) 1 v) ll
+    ]
+
+over-long : (s buffer : List ℕ) → length buffer ≤ length (over s buffer)
+unfolding over
+over-long s buffer = simp (length-append, length-drop) (omega arith)
+
+-- ---- The state.
+
+written-lent : (op o : ℕ) (d : List ℕ) (s : State) (reply reply′ : List ℕ) → ((k : ℕ) → getD d k 0 < 256) → isRead o ≡ 0
+    → first (judgement op o d) ≡ 0 → runsPast op (eqb (isRead o) 1) d (s .block) ≡ false → 512 ≤ length reply′ → Lent s reply
+    → Lent (written op d s) reply′
+unfolding written
+written-lent op o d s reply reply′ bytes h j past room l =
+    record {
+      block = changed-long (changed op o d (s .block) h j) (l .block);
+      staged =
+          elim (ℕ-discrete op 0x34) [
+            | yes m ↦ rw m (points-long d (s .staged) (points-write o d (s .block) h (rw m at j) (rw m at past) (l .settings)) (l .staged))
+            | no m ↦ rw (ne-eqb op 0x34 m) (l .staged)
+          ];
+      live =
+          elim (ℕ-discrete op 0x36) [
+            | yes a ↦ rw a (live-long d (s .staged) (s .live) (l .staged) (l .live))
+            | no a ↦ rw (ne-eqb op 0x36 a) (l .live)
+          ];
+      gains =
+          elim (ℕ-discrete op 0x2B) [
+            | yes g ↦ rw g (gains-long d (s .gains) (gains-write o d (s .block) h (rw g at j) (rw g at past)) (l .gains))
+            | no g ↦ rw (ne-eqb op 0x2B g) (l .gains)
+          ];
+      room = room;
+      settings = settings-stay op o d (s .block) bytes h j (l .block) (l .settings);
+    }
+
+pub stays-lent : (p : List ℕ) → ((k : ℕ) → getD p k 0 < 256) → (s : State) (reply : List ℕ) → Lent s reply
+    → Lent (step p s reply .state) (step p s reply .reply)
+unfolding step
+stays-lent p bytes s reply l = go (way p s reply)
+  where
+    room : 512 ≤ length (step p s reply .reply)
+    room = omega (arith, over-long (replyTo (numberOf p s reply) p s) reply)
+
+    go : Way p s reply → Lent (step p s reply .state) (step p s reply .reply)
+    go (Way.same e) =
+        rw e (record { block = l .block; staged = l .staged; live = l .live; gains = l .gains; room = room; settings = l .settings })
+    go (Way.wrote st r a e) =
+        rw e
+        (written-lent (opcodeOf p) (optionsIn (headerOf p)) (dataOf p) s reply (step p s reply .reply) (bytes-of-data p bytes) (omega arith)
+        (a .command .judged) (a .command .within) room l)

@@ -1,0 +1,14 @@
+-- Laws of the front end: the decision on a packet and what it bounds, replies, and the block's bytes; for the functions here and for the
+-- entries above. Then the theorems over any packets: every reply reads back, bytes without a meaning and the live side are kept, and a state
+-- in range stays in range.
+pub mod Bounds
+pub mod Sizes
+pub mod Replies
+pub mod Blocks
+pub mod Steps
+pub mod Demands
+pub mod Changes
+pub mod ReadBack
+pub mod Kept
+pub mod Live
+pub mod InRange

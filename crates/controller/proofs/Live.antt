@@ -1,0 +1,76 @@
+-- The live side changes by an accepted 36h write of 1 alone: any other packet leaves the live points and the live settings, and so does any
+-- list of others.
+use Prim.Native.Nat.{ℕ, _+_, _≤_, _<_}
+use mathlib.Core.Path.{_≡_, refl, sym, _∙_}
+use mathlib.Core.Bool.{cond}
+use mathlib.Core.List.{List}
+use native.Mathlib.Decide.{ℕ-discrete}
+use native.Mathlib.Omega.{arith}
+use borrow.Author.Tests.{eq-eqb, ne-eqb}
+use lib.ListN.{length, take, drop, length-take, length-drop}
+use lib.Seq.{ext-getD, getD-take, getD-drop, paste, length-paste}
+use lib.Dec.{eqb}
+use Rattle.wire.specs.Numbers.{byteAt}
+use Rattle.opcode.specs.Options.{optionsIn}
+use Rattle.packet.specs.Frame.{headerOf, opcodeOf, dataOf}
+use Rattle.settings.proofs.Same.{Same, paste-apart}
+use Rattle.controller.specs.State.{State}
+use Rattle.controller.specs.Commands.{written, applyLive}
+use Rattle.controller.specs.Step.{step}
+use Rattle.controller.specs.Demands.{Sent, stateAfterAll, Applies, NoneApplies, LiveKept}
+use Rattle.controller.proofs.Changes.{Way, way, Change, changed}
+
+-- Equal elements make equal parts.
+same-part : {a b : List ℕ} {i j n : ℕ} → Same a i b j n → i + n ≤ length a → j + n ≤ length b → take n (drop i a) ≡ take n (drop j b)
+same-part {a} {b} {i} {j} {n} h la lb =
+    let long : length (take n (drop i a)) ≡ n = simp (length-take, length-drop) (omega arith) in
+    let same-long : length (take n (drop i a)) ≡ length (take n (drop j b)) = simp (length-take, length-drop) (omega arith) in
+    ext-getD 0 (take n (drop i a)) (take n (drop j b)) same-long
+    (λ k lt.
+    let inside : k < n = omega arith in
+    getD-take n (drop i a) k 0 inside ∙ getD-drop i a k 0 ∙ h .each k inside ∙ sym (getD-drop j b k 0)
+    ∙ sym (getD-take n (drop j b) k 0 inside))
+
+shape-changed : {op : ℕ} {d block after : List ℕ} → (op ≡ 0x36 → byteAt d 0 ≡ 1 → ⊥) → Change op d block after → length block ≡ 1024
+    → take 193 (drop 202 block) ≡ take 193 (drop 202 after)
+shape-changed other (Change.none e) l = rw e
+shape-changed {op} {d} {block} other (Change.copied from to n c e) l =
+    let room : to + n ≤ length block = omega arith in
+    let long : length (paste block to from n) ≡ length block = length-paste block to from n room (c .long) in
+    rw e (sym (same-part (paste-apart block from to n room (c .long) 202 193 (c .beside)) (omega arith) (omega arith)))
+shape-changed other (Change.applied a v e) l = absurd (other a v)
+
+live-written : (op : ℕ) (d staged live : List ℕ) → (op ≡ 0x36 → byteAt d 0 ≡ 1 → ⊥) → live ≡ cond (eqb op 0x36) (applyLive d staged live) live
+unfolding applyLive
+live-written op d staged live other =
+    elim (ℕ-discrete op 0x36) [
+      | yes a ↦ rw (eq-eqb op 0x36 a, ne-eqb (byteAt d 0) 1 (other a))
+      | no a ↦ rw (ne-eqb op 0x36 a)
+    ]
+
+one-kept : (p : List ℕ) (s : State) (reply : List ℕ) → (Applies p s reply → ⊥) → LiveKept s (step p s reply .state)
+unfolding written
+one-kept p s reply other = go (way p s reply)
+  where
+    go : Way p s reply → LiveKept s (step p s reply .state)
+    go (Way.same e) = rw e (record { points-kept = refl; settings-kept = refl })
+    go (Way.wrote st r a e) =
+        let not-applied : opcodeOf p ≡ 0x36 → byteAt (dataOf p) 0 ≡ 1 → ⊥ = λ o v. other (st, o, r, v) in
+        rw e
+        (record {
+          points-kept = live-written (opcodeOf p) (dataOf p) (s .staged) (s .live) not-applied;
+          settings-kept =
+              shape-changed not-applied
+              (changed (opcodeOf p) (optionsIn (headerOf p)) (dataOf p) (s .block) (omega arith) (a .command .judged)) (a .lent .block);
+        })
+
+chain : {s t u : State} → LiveKept s t → LiveKept t u → LiveKept s u
+chain h k = record { points-kept = h .points-kept ∙ k .points-kept; settings-kept = h .settings-kept ∙ k .settings-kept }
+
+each-kept : {xs : List Sent} {s : State} → NoneApplies xs s → LiveKept s (stateAfterAll xs s)
+unfolding stateAfterAll
+each-kept NoneApplies.none = record { points-kept = refl; settings-kept = refl }
+each-kept (NoneApplies.next {x} {xs} {s} other rest) = chain (one-kept (x .packet) s (x .reply) other) (each-kept rest)
+
+pub live-kept : (xs : List Sent) (s : State) → NoneApplies xs s → LiveKept s (stateAfterAll xs s)
+live-kept xs s h = each-kept h

@@ -1,0 +1,130 @@
+-- Every reply that the front end writes reads back as it was meant: its status is at most 12, and its data at most 508 bytes, so that all of
+-- it fits 512 with head and checksum.
+use Prim.Native.Nat.{ℕ, _+_, _*_, _≤_}
+use mathlib.Core.Path.{_≡_, refl}
+use mathlib.Core.Bool.{Bool, true, false, and-false}
+use mathlib.Core.List.{List}
+use native.Mathlib.Decide.{ℕ-discrete}
+use native.Mathlib.Omega.{arith}
+use borrow.Author.Tests.{eq-eqb, ne-eqb}
+use lib.ListN.{length, take, drop, length-take}
+use lib.Dec.{eqb}
+use Rattle.wire.specs.First.{first}
+use Rattle.wire.specs.Numbers.{byteAt, wordAt}
+use Rattle.wire.proofs.Tables.{length-halves}
+use Rattle.opcode.specs.Options.{optionsIn, hasSum, isRead}
+use Rattle.opcode.specs.Commands.{commandOf}
+use Rattle.opcode.specs.Judgement.{judgement}
+use Rattle.packet.specs.Frame.{headerOf, opcodeOf, dataOf}
+use Rattle.reply.specs.Reading.{sumSize}
+use Rattle.reply.proofs.Laws.{length-reply}
+use Rattle.reply.proofs.ReadsBack.{reads-back}
+use Rattle.settings.specs.Layout.{stagedShape, smoothTable, modeAt, placeOf}
+use Rattle.settings.specs.Ranges.{settingsRight}
+use Rattle.controller.specs.State.{State, stopped}
+use Rattle.controller.specs.Commands.{readGains, readPoints, readShape, readSmooth, blockBack, dataBack, runsPast}
+use Rattle.controller.specs.Step.{numberOf, answers, replyData, replyTo, step}
+use Rattle.controller.specs.Demands.{RepliesAsMeant}
+use Rattle.controller.proofs.Bounds.{counts, gains-read, points-read, placed-number}
+use Rattle.controller.proofs.Sizes.{back-small}
+use Rattle.controller.proofs.Changes.{passed}
+
+-- ---- The data of an accepted read.
+
+part-small : (n : ℕ) (l : List ℕ) (most : ℕ) → n ≤ most → length (take n l) ≤ most
+part-small n l most h = rw length-take (omega arith)
+
+gains-small : (d gains : List ℕ) → wordAt d 3 ≤ 254 → length (readGains d gains) ≤ 508
+unfolding readGains
+gains-small d gains h = rw (length-halves, length-take) (omega arith)
+
+points-small : (d staged : List ℕ) → wordAt d 2 ≤ 127 → length (readPoints d staged) ≤ 508
+unfolding readPoints
+points-small d staged h = rw (length-halves, length-take) (omega arith)
+
+shape-small : (block : List ℕ) → length (readShape block) ≤ 508
+unfolding readShape
+shape-small block =
+    elim (ℕ-discrete (modeAt block stagedShape) 1) [
+      | yes e ↦ rw (eq-eqb (modeAt block stagedShape) 1 e) (omega (arith, part-small 188 (drop 13 block) 188 (omega arith)))
+      | no e ↦ rw (ne-eqb (modeAt block stagedShape) 1 e) (part-small 5 (drop 8 block) 508 (omega arith))
+    ]
+
+smooth-small : (block : List ℕ) → settingsRight block ≡ true → length (readSmooth block) ≤ 508
+unfolding readSmooth
+smooth-small block right =
+    part-small (2 + 4 * (byteAt block smoothTable * byteAt block (smoothTable + 1))) (drop smoothTable block) 508
+    (omega (arith, counts block right .smooth-points))
+
+pub back-fits : (op o : ℕ) (d : List ℕ) (s : State) → isRead o ≡ 1 → first (judgement op o d) ≡ 0 → runsPast op (eqb (isRead o) 1) d (s .block) ≡ false
+    → settingsRight (s .block) ≡ true → length (dataBack op d s) ≤ 508
+unfolding dataBack blockBack
+back-fits op o d s h e past right =
+    elim (ℕ-discrete op 0x2B) [
+      | yes g ↦ rw g (gains-small d (s .gains) (gains-read o d (s .block) h (rw g at e) (rw g at past) .few))
+      | no g ↦
+          elim (ℕ-discrete op 0x34) [
+            | yes m ↦ rw m (points-small d (s .staged) (points-read o d (s .block) h (rw m at e) (rw m at past) right .few))
+            | no m ↦
+                elim (ℕ-discrete op 0x35) [
+                  | yes c ↦ rw c (shape-small (s .block))
+                  | no c ↦
+                      elim (ℕ-discrete op 0x38) [
+                        | yes t ↦ rw t (smooth-small (s .block) right)
+                        | no t ↦
+                            rw (ne-eqb op 0x2B g, ne-eqb op 0x34 m, ne-eqb op 0x35 c, ne-eqb op 0x38 t)
+                            (part-small (commandOf op .back) (drop (placeOf op d) (s .block)) 508 (omega (arith, back-small op)))
+                      ]
+                ]
+          ]
+    ]
+
+-- ---- The reply.
+
+fits : {n : ℕ} (sum : Bool) → n ≤ 508 → n + 3 + sumSize sum ≤ 512
+fits true h = omega arith
+fits false h = omega arith
+
+module _ (p : List ℕ) (s : State) (reply : List ℕ) where
+  number-small : numberOf p s reply ≤ 12
+  unfolding numberOf
+  number-small = go (stopped s reply) refl
+    where
+      go : (b : Bool) → stopped s reply ≡ b → numberOf p s reply ≤ 12
+      go true e = rw e (omega arith)
+      go false e = rw e (placed-number p (s .block) .small)
+
+  data-small : length (replyData (numberOf p s reply) p s) ≤ 508
+  data-small =
+      elim (ℕ-discrete (numberOf p s reply) 0) [
+        | no e ↦ rw (ne-eqb (numberOf p s reply) 0 e) (omega arith)
+        | yes e ↦
+            elim (ℕ-discrete (isRead (headerOf p)) 1) [
+              | no r ↦ rw (ne-eqb (isRead (headerOf p)) 1 r, and-false) (omega arith)
+              | yes r ↦
+                  let a = passed p s reply e in
+                  rw (e, eq-eqb (isRead (headerOf p)) 1 r)
+                  (back-fits (opcodeOf p) (optionsIn (headerOf p)) (dataOf p) s (omega arith) (a .command .judged) (a .command .within) (a .lent .settings))
+            ]
+      ]
+
+pub replies-as-meant : (p : List ℕ) (s : State) (reply : List ℕ) → RepliesAsMeant p s (numberOf p s reply)
+unfolding replyTo
+replies-as-meant p s reply = go (answers (numberOf p s reply) p) refl
+  where
+    go : (b : Bool) → answers (numberOf p s reply) p ≡ b → RepliesAsMeant p s (numberOf p s reply)
+    go false e = RepliesAsMeant.silent (rw e)
+    go true e =
+        let sum : Bool = eqb (hasSum (headerOf p)) 1 in
+        let back = reads-back sum (numberOf p s reply) (replyData (numberOf p s reply) p s) (number-small p s reply)
+        (rw length-reply (fits sum (data-small p s reply))) in
+        RepliesAsMeant.reads-back (rw e (back .reading)) (rw e (back .content))
+
+-- No reply is longer than 512 bytes.
+pub size-small : (p : List ℕ) (s : State) (reply : List ℕ) → step p s reply .size ≤ 512
+unfolding step replyTo
+size-small p s reply = go (answers (numberOf p s reply) p) refl
+  where
+    go : (b : Bool) → answers (numberOf p s reply) p ≡ b → step p s reply .size ≤ 512
+    go false e = rw e (omega arith)
+    go true e = rw (e, length-reply) (fits (eqb (hasSum (headerOf p)) 1) (data-small p s reply))

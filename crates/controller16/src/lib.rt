@@ -1,0 +1,259 @@
+// The front end on tables of 16-bit numbers, for Rattle callers.
+use controller::Outcome;
+use packet::Reading;
+ghost use mathlib.Core.Path.{_≡_};
+ghost use mathlib.Core.Bool.{cond, false};
+ghost use mathlib.Core.List.{[]};
+ghost use Prim.Native.Nat.{_≤_};
+ghost use lib.ListN.{length};
+ghost use lib.Dec.{eqb};
+ghost use Rattle.wire.specs.Buffers.{over};
+ghost use Rattle.opcode.specs.Options.{isRead, hasSum};
+ghost use Rattle.packet.specs.Points.{writePoints, startOf, pointsOf};
+ghost use Rattle.reply.specs.Reply.{replyBytes};
+ghost use Rattle.controller.specs.State.{state, resetOut, lengthsRight, «stopped» as stoppedBy, «reset» as resetOf};
+ghost use Rattle.controller.specs.Commands.{written, writeGains, applyLive, dataBack};
+ghost use Rattle.controller.specs.Step.{«out» as outcome, decision, step};
+ghost use Rattle.controller.specs.Granted.{Granted, PointsWrite, GainsWrite};
+
+// Puts the block and all tables as they are after reset. Answers 0, or 1 for a wrong length, when nothing is changed.
+pub fn reset(block: &mut [u8], staged: &mut [u16], live: &mut [u16], gains: &mut [u16]) -> u8
+    ensures { λ r. ⌜ resetOut r (state (now (block .exit)) (now (staged .exit)) (now (live .exit)) (now (gains .exit)))
+        ≡ resetOf (state (now (block .entry)) (now (staged .entry)) (now (live .entry)) (now (gains .entry))) ⌝ }
+{
+    if !lengths_right(block, staged, live, gains) {
+        return 1;
+    }
+    settings::reset_block(block);
+    tables::fill_words(staged, 0);
+    tables::fill_words(live, 0);
+    tables::fill_words(gains, 4096);
+    0
+}
+
+// Whether each lent list has the length it must have.
+fn lengths_right(block: &[u8], staged: &[u16], live: &[u16], gains: &[u16]) -> bool
+    ensures { λ r. ⌜ r ≡ lengthsRight (state (now (block .entry)) (now (staged .entry)) (now (live .entry)) (now (gains .entry))) ⌝ }
+{
+    if block.len() != 1024 {
+        return false;
+    }
+    if staged.len() != 3968 {
+        return false;
+    }
+    if live.len() != 3968 {
+        return false;
+    }
+    gains.len() == 6048
+}
+
+// One packet on a state: any bytes, any lent lengths.
+pub fn handle(
+    packet: &[u8],
+    block: &mut [u8],
+    staged: &mut [u16],
+    live: &mut [u16],
+    gains: &mut [u16],
+    reply: &mut [u8],
+) -> Outcome
+    ensures { λ r. ⌜ outcome (r .status) (r .size) (state (now (block .exit)) (now (staged .exit)) (now (live .exit)) (now (gains .exit))) (now (reply .exit))
+        ≡ step (now (packet .entry)) (state (now (block .entry)) (now (staged .entry)) (now (live .entry)) (now (gains .entry))) (now (reply .entry)) ⌝ }
+{
+    if stopped(block, staged, live, gains, reply) {
+        return Outcome { status: 1, size: 0 };
+    }
+    decided(packet, block, staged, live, gains, reply)
+}
+
+// One packet that refusal 1 does not stop: refused, or performed.
+fn decided(
+    packet: &[u8],
+    block: &mut [u8],
+    staged: &mut [u16],
+    live: &mut [u16],
+    gains: &mut [u16],
+    reply: &mut [u8],
+) -> Outcome
+    requires { ⌜ stoppedBy (state (now block) (now staged) (now live) (now gains)) (now reply) ≡ false ⌝ }
+    ensures { λ r. ⌜ outcome (r .status) (r .size) (state (now (block .exit)) (now (staged .exit)) (now (live .exit)) (now (gains .exit))) (now (reply .exit))
+        ≡ step (now (packet .entry)) (state (now (block .entry)) (now (staged .entry)) (now (live .entry)) (now (gains .entry))) (now (reply .entry)) ⌝ }
+{
+    let decision = controller::decide(packet, block);
+    let Reading::Command {
+        opcode,
+        options,
+        at,
+        size,
+    } = decision
+    else {
+        return controller::refuse(decision, packet, reply);
+    };
+    perform(
+        opcode as usize,
+        options as usize,
+        at,
+        size,
+        packet,
+        block,
+        staged,
+        live,
+        gains,
+        reply,
+    )
+}
+
+// An accepted command: a read is answered with its data, a write is stored and acknowledged.
+fn perform(
+    opcode: usize,
+    options: usize,
+    at: usize,
+    size: usize,
+    packet: &[u8],
+    block: &mut [u8],
+    staged: &mut [u16],
+    live: &mut [u16],
+    gains: &mut [u16],
+    reply: &mut [u8],
+) -> Outcome
+    requires { ⌜ (stoppedBy (state (now block) (now staged) (now live) (now gains)) (now reply) ≡ false)
+        × (record { number = 0; opcode = opcode; options = options; place = at; size = size } ≡ decision (now packet) (now block)) ⌝ }
+    ensures { λ r. ⌜ outcome (r .status) (r .size) (state (now (block .exit)) (now (staged .exit)) (now (live .exit)) (now (gains .exit))) (now (reply .exit))
+        ≡ step (now (packet .entry)) (state (now (block .entry)) (now (staged .entry)) (now (live .entry)) (now (gains .entry))) (now (reply .entry)) ⌝ }
+{
+    let data = &packet[at..at + size];
+    if options / 128 % 2 == 1 {
+        let n = answer_read(opcode, options, data, block, staged, gains, reply);
+        return Outcome { status: 0, size: n };
+    }
+    store(opcode, options, data, block, staged, live, gains);
+    let n = controller::acknowledge(packet, 0, reply);
+    Outcome { status: 0, size: n }
+}
+
+// Refusal 1: lengths, and then every setting.
+fn stopped(block: &[u8], staged: &[u16], live: &[u16], gains: &[u16], reply: &[u8]) -> bool
+    ensures { λ r. ⌜ r ≡ stoppedBy (state (now (block .entry)) (now (staged .entry)) (now (live .entry)) (now (gains .entry))) (now (reply .entry)) ⌝ }
+{
+    if !lengths_right(block, staged, live, gains) {
+        return true;
+    }
+    if reply.len() < 512 {
+        return true;
+    }
+    !settings::in_range(block)
+}
+
+// The reply of an accepted read: its data goes in behind the three-byte head.
+fn answer_read(
+    opcode: usize,
+    options: usize,
+    data: &[u8],
+    block: &[u8],
+    staged: &[u16],
+    gains: &[u16],
+    reply: &mut [u8],
+) -> usize
+    requires { ⌜ Granted opcode options (now «data») (now block) × (isRead options ≡ 1) × (length (now staged) ≡ 3968) × (length (now gains) ≡ 6048)
+        × (512 ≤ length (now reply)) ⌝ }
+    ensures { λ r. ⌜ (r ≡ length (replyBytes (eqb (hasSum options) 1) 0 (dataBack opcode (now («data» .entry)) (state (now (block .entry)) (now (staged .entry)) [] (now (gains .entry))))))
+        × (now (reply .exit) ≡ over (replyBytes (eqb (hasSum options) 1) 0 (dataBack opcode (now («data» .entry)) (state (now (block .entry)) (now (staged .entry)) [] (now (gains .entry))))) (now (reply .entry))) ⌝ }
+{
+    let n = fetch(&mut reply[3..], opcode, options, data, block, staged, gains);
+    reply::seal(reply, 0, n, options / 32 % 2 == 1)
+}
+
+// The data that an accepted read returns, over the start of the buffer. Answers its size.
+fn fetch(
+    out: &mut [u8],
+    opcode: usize,
+    options: usize,
+    data: &[u8],
+    block: &[u8],
+    staged: &[u16],
+    gains: &[u16],
+) -> usize
+    requires { ⌜ Granted opcode options (now «data») (now block) × (isRead options ≡ 1) × (length (now staged) ≡ 3968) × (length (now gains) ≡ 6048)
+        × (508 ≤ length (now out)) ⌝ }
+    ensures { λ r. ⌜ (r ≡ length (dataBack opcode (now («data» .entry)) (state (now (block .entry)) (now (staged .entry)) [] (now (gains .entry)))))
+        × (now (out .exit) ≡ over (dataBack opcode (now («data» .entry)) (state (now (block .entry)) (now (staged .entry)) [] (now (gains .entry)))) (now (out .entry))) ⌝ }
+{
+    if opcode == 0x34 {
+        let count = wire::word(data, 2);
+        tables::words_out(out, staged, 2 * wire::word(data, 0), 2 * count);
+        return 4 * count;
+    }
+    if opcode == 0x2B {
+        let count = wire::word(data, 3);
+        let place = 2016 * (wire::byte(data, 0) - 1) + wire::word(data, 1);
+        tables::words_out(out, gains, place, count);
+        return 2 * count;
+    }
+    controller::fetch(out, opcode, options, data, block)
+}
+
+// An accepted write: into the block and the tables that its command names.
+fn store(
+    opcode: usize,
+    options: usize,
+    data: &[u8],
+    block: &mut [u8],
+    staged: &mut [u16],
+    live: &mut [u16],
+    gains: &mut [u16],
+)
+    requires { ⌜ Granted opcode options (now «data») (now block) × (isRead options ≡ 0) × (length (now staged) ≡ 3968) × (length (now live) ≡ 3968)
+        × (length (now gains) ≡ 6048) ⌝ }
+    ensures { λ _. ⌜ state (now (block .exit)) (now (staged .exit)) (now (live .exit)) (now (gains .exit))
+        ≡ written opcode (now («data» .entry)) (state (now (block .entry)) (now (staged .entry)) (now (live .entry)) (now (gains .entry))) ⌝ }
+{
+    apply(opcode, data, staged, live);
+    store_points(opcode, data, staged);
+    store_gains(opcode, data, gains);
+    controller::store(block, opcode, options, data);
+}
+
+// 36h with 1: all staged points become live.
+fn apply(opcode: usize, data: &[u8], staged: &[u16], live: &mut [u16])
+    requires { ⌜ length (now live) ≡ length (now staged) ⌝ }
+    ensures { λ _. ⌜ now (live .exit) ≡ cond (eqb opcode 0x36) (applyLive (now («data» .entry)) (now (staged .entry)) (now (live .entry))) (now (live .entry)) ⌝ }
+{
+    if opcode != 0x36 {
+        return;
+    }
+    if wire::byte(data, 0) != 1 {
+        return;
+    }
+    tables::copy_words(live, staged);
+}
+
+// 34h: the points of the packet, from its start on.
+fn store_points(opcode: usize, data: &[u8], staged: &mut [u16])
+    requires { ⌜ (opcode ≡ 0x34 → PointsWrite (now «data»)) × (length (now staged) ≡ 3968) ⌝ }
+    ensures { λ _. ⌜ now (staged .exit) ≡ cond (eqb opcode 0x34) (writePoints (startOf (now («data» .entry))) (pointsOf (now («data» .entry))) (now (staged .entry))) (now (staged .entry)) ⌝ }
+{
+    if opcode != 0x34 {
+        return;
+    }
+    let numbers = (data.len() - 2) / 2;
+    tables::words_in(staged, 2 * wire::word(data, 0), data, 2, numbers);
+}
+
+// 2Bh: the words of the packet, into one third of the gains or, for colour 0, into all three.
+fn store_gains(opcode: usize, data: &[u8], gains: &mut [u16])
+    requires { ⌜ (opcode ≡ 0x2B → GainsWrite (now «data»)) × (length (now gains) ≡ 6048) ⌝ }
+    ensures { λ _. ⌜ now (gains .exit) ≡ cond (eqb opcode 0x2B) (writeGains (now («data» .entry)) (now (gains .entry))) (now (gains .entry)) ⌝ }
+{
+    if opcode != 0x2B {
+        return;
+    }
+    let colour = wire::byte(data, 1);
+    let count = wire::word(data, 2);
+    let start = wire::word(data, 4);
+    if colour == 0 {
+        tables::words_in(gains, start, data, 6, count);
+        tables::words_in(gains, 2016 + start, data, 6, count);
+        tables::words_in(gains, 4032 + start, data, 6, count);
+        return;
+    }
+    tables::words_in(gains, 2016 * (colour - 1) + start, data, 6, count);
+}

@@ -1,0 +1,62 @@
+-- "There, every table, room or plan is lent as its bytes, low byte first, of the matching length, and the answers are those of the entries on
+-- wider numbers." Lengths are judged in bytes, exactly.
+use Prim.Native.Nat.{ℕ}
+use mathlib.Core.Bool.{Bool, cond, _&&_}
+use mathlib.Core.List.{List}
+use lib.ListN.{length}
+use lib.Dec.{eqb}
+use Rattle.wire.specs.Tables.{words, bytes}
+use Rattle.controller.specs.State.{State, resetState}
+use Rattle.controller.specs.Step.{Out, step}
+
+-- Block and tables, all as bytes.
+pub record Lent : Type 0 where
+  pub block : List ℕ
+  pub staged : List ℕ
+  pub live : List ℕ
+  pub gains : List ℕ
+
+abbrev pub lent : List ℕ → List ℕ → List ℕ → List ℕ → Lent
+lent block staged live gains = record { block = block; staged = staged; live = live; gains = gains }
+
+-- The state that lent bytes hold, and the bytes of a state.
+abbrev pub stateIn : Lent → State
+stateIn l = record { block = l .block; staged = words (l .staged); live = words (l .live); gains = words (l .gains) }
+
+abbrev pub bytesOf : State → Lent
+bytesOf s = record { block = s .block; staged = bytes (s .staged); live = bytes (s .live); gains = bytes (s .gains) }
+
+-- Two bytes for each number: block 1,024, maps 7,936, gains 12,096.
+abbrev pub byteLengthsRight : Lent → Bool
+byteLengthsRight l =
+    eqb (length (l .block)) 1024
+    && eqb (length (l .staged)) 7936
+    && eqb (length (l .live)) 7936
+    && eqb (length (l .gains)) 12096
+
+-- The answer, and all that was lent, as it is left.
+pub record LentOut : Type 0 where
+  pub status : ℕ
+  pub size : ℕ
+  pub lent : Lent
+  pub reply : List ℕ
+
+abbrev pub lentOut : ℕ → ℕ → Lent → List ℕ → LentOut
+lentOut status size l reply = record { status = status; size = size; lent = l; reply = reply }
+
+abbrev pub outBytes : Out → LentOut
+outBytes o = lentOut (o .status) (o .size) (bytesOf (o .state)) (o .reply)
+
+-- A wrong length is refusal 1, with no reply and every byte as it was; else what the step on numbers gives.
+unfoldable pub stepBytes : List ℕ → Lent → List ℕ → LentOut
+stepBytes p l reply = cond (byteLengthsRight l) (outBytes (step p (stateIn l) reply)) (lentOut 1 0 l reply)
+
+pub record LentReset : Type 0 where
+  pub status : ℕ
+  pub lent : Lent
+
+abbrev pub lentReset : ℕ → Lent → LentReset
+lentReset status l = record { status = status; lent = l }
+
+unfoldable pub resetBytes : Lent → LentReset
+resetBytes l = cond (byteLengthsRight l) (lentReset 0 (bytesOf resetState)) (lentReset 1 l)

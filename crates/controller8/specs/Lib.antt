@@ -1,0 +1,2 @@
+-- The front end on tables lent as bytes.
+pub mod Bytes

@@ -1,0 +1,5 @@
+pub mod Laws
+pub mod Resets
+pub mod Fits
+pub mod Same
+pub mod Stays

@@ -1,0 +1,97 @@
+-- The parts of the fields from place 497 on, in their order.
+use Prim.Native.Nat.{ℕ, _+_}
+use mathlib.Core.Path.{_≡_, sym}
+use mathlib.Core.Bool.{Bool, true, _&&_, and-true, and-assoc}
+use mathlib.Core.List.{List, [], _∷_, _++_}
+use lib.Dec.{leb}
+use Rattle.wire.specs.Numbers.{byteAt}
+use Rattle.opcode.specs.declared.Field.{Field}
+use Rattle.opcode.specs.Fields.{byte}
+use Rattle.opcode.specs.Commands.{commandOf}
+use Rattle.opcode.proofs.Accepts.Fields.{span}
+use Rattle.settings.specs.Ranges.{right, fieldsOf, behindPort, forEach, deviceFields}
+use Rattle.settings.proofs.Laws.{right-append, right-byte}
+use borrow.Author.Needs.{needs}
+use Rattle.settings.proofs.device_in_range.Statement.{statement}
+use Rattle.settings.proofs.device_in_range.Tie as tie
+
+-- Four runs, and a fifth three times.
+runs : (e f g h k : List Field) (d : List ℕ) (at : ℕ)
+    → right (e ++ f ++ g ++ h ++ forEach 3 k) d at
+    ≡ (right e d at && right f d (at + span e) && right g d (at + span (e ++ f)) && right h d (at + span (e ++ f ++ g))
+    && (right k d (at + span (e ++ f ++ g ++ h))
+    && (right k d (at + span (e ++ f ++ g ++ h) + span k) && (right k d (at + span (e ++ f ++ g ++ h) + span k + span k) && true))))
+unfolding right
+runs e f g h k d at = simp right-append
+
+joined : (fine e f g h k l m : Bool)
+    → (fine && (e && f && g && h && (k && (l && (m && true))))) ≡ (fine && e && f && g && h && k && l && m)
+joined fine e f g h k l m = simp (and-assoc, and-true)
+
+parts : (d : List ℕ) (fine : Bool)
+    → (fine && right deviceFields d 497)
+    ≡ (fine && leb (byteAt d 497) 0 && right (forEach 88 (behindPort 0x60)) d 498 && right (forEach 12 (behindPort 0x65)) d 762
+    && leb (byteAt d 834) 1 && right (behindPort 0x6D) d 835 && right (behindPort 0x6D) d 845 && right (behindPort 0x6D) d 855)
+unfolding deviceFields commandOf
+parts d fine =
+    rw (
+      runs (byte 0 0 ∷ []) (forEach 88 (behindPort 0x60)) (forEach 12 (behindPort 0x65)) (fieldsOf 0x6C) (behindPort 0x6D) d 497,
+      right-byte 0 d 497,
+      right-byte 1 d 834,
+    )
+    (joined fine (leb (byteAt d 497) 0) (right (forEach 88 (behindPort 0x60)) d 498) (right (forEach 12 (behindPort 0x65)) d 762)
+    (leb (byteAt d 834) 1) (right (behindPort 0x6D) d 835) (right (behindPort 0x6D) d 845) (right (behindPort 0x6D) d 855))
+
+up-to-requires : tie.Need-up-to-requires
+up-to-requires c κs = search needs
+
+pins-in-range-requires : tie.Need-pins-in-range-requires
+pins-in-range-requires c κs = search needs
+
+pwm-in-range-requires : tie.Need-pwm-in-range-requires
+pwm-in-range-requires c κs = search needs
+
+up-to-requires-2 : tie.Need-up-to-requires-2
+up-to-requires-2 c κs = search needs
+
+uart-port-in-range-requires : tie.Need-uart-port-in-range-requires
+uart-port-in-range-requires c κs = search needs
+
+uart-port-in-range-requires-2 : tie.Need-uart-port-in-range-requires-2
+uart-port-in-range-requires-2 c κs = search needs
+
+uart-port-in-range-requires-3 : tie.Need-uart-port-in-range-requires-3
+uart-port-in-range-requires-3 c κs = search needs
+
+returns : tie.Need-returns
+returns c =
+    let at-6 = c .before in
+    let at-5 = at-6 .before in
+    let at-4 = at-5 .before in
+    let at-3 = at-4 .before in
+    let at-2 = at-3 .before in
+    let at-1 = at-2 .before in
+    let args = at-1 .before .before .args in
+    rw (
+      c .uart-port-in-range3 .ensures,
+      at-6 .uart-port-in-range2 .ensures,
+      at-5 .uart-port-in-range .ensures,
+      at-4 .up-to2 .ensures,
+      at-3 .pwm-in-range .ensures,
+      at-2 .pins-in-range .ensures,
+      at-1 .up-to .ensures,
+    )
+    (sym (parts (args .block .now) (args .fine)))
+
+pub device-in-range-spec : {M : Type 1} → statement M
+device-in-range-spec =
+    tie.close
+    (tie.spec
+    up-to-requires
+    pins-in-range-requires
+    pwm-in-range-requires
+    up-to-requires-2
+    uart-port-in-range-requires
+    uart-port-in-range-requires-2
+    uart-port-in-range-requires-3
+    returns)

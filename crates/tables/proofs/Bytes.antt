@@ -1,0 +1,57 @@
+-- What is done to a table's bytes, said of its numbers. tb is a table as its bytes: an even count, each below 256. Numbers and bytes turn into
+-- each other without loss, and n numbers from a place on are 2 * n bytes from twice that place on.
+use Prim.Native.Nat.{ℕ, zero, suc, _+_, _*_, _/_, _%_, _≤_, _<_}
+use mathlib.Core.Path.{_≡_}
+use mathlib.Core.List.{List, [], _∷_}
+use native.Mathlib.Omega.{arith}
+use lib.ListN.{length, take, drop, getD, length-take, length-drop}
+use lib.Seq.{paste, getD-drop}
+use Rattle.wire.specs.Tables.{words, bytes}
+use Rattle.wire.proofs.Tables.{pairs-halves, halves-pairs, length-pairs, pairs-take, halves-take, halves-drop, halves-paste, pairs-below}
+
+-- Every element is below a bound.
+abbrev pub Below : ℕ → List ℕ → Type 0
+Below b l = (k : ℕ) → getD l k 0 < b
+
+take-below : (b n : ℕ) (l : List ℕ) → Below b l → Below b (take n l)
+take-below b zero l h k = omega (arith, h 0)
+take-below b (suc n) [] h k = h k
+take-below b (suc n) (x ∷ l) h zero = h 0
+take-below b (suc n) (x ∷ l) h (suc k) = take-below b n l (λ j. h (suc j)) k
+
+-- Numbers, their bytes and back: numbers of any size.
+pub words-bytes : (l : List ℕ) → words (bytes l) ≡ l
+words-bytes l = pairs-halves 256 l
+
+-- Two bytes a number, which is below 65536.
+pub length-words : (tb : List ℕ) → length (words tb) ≡ length tb / 2
+length-words tb = length-pairs 256 tb
+
+pub length-words-of : (tb : List ℕ) (n : ℕ) → length tb ≡ 2 * n → length (words tb) ≡ n
+length-words-of tb n e = omega (arith, length-words tb)
+
+pub words-below : (tb : List ℕ) → Below 256 tb → Below 65536 (words tb)
+words-below tb small = pairs-below 256 tb small
+
+-- Bytes, their numbers and back.
+pub bytes-words : (tb : List ℕ) → length tb % 2 ≡ 0 → Below 256 tb → bytes (words tb) ≡ tb
+bytes-words tb even small = halves-pairs 256 tb even small
+
+-- A part.
+pub bytes-part : (tb : List ℕ) → length tb % 2 ≡ 0 → Below 256 tb → (from n : ℕ)
+    → bytes (take n (drop from (words tb))) ≡ take (2 * n) (drop (2 * from) tb)
+bytes-part tb even small from n = rw (halves-take, halves-drop, bytes-words tb even small)
+
+-- The first n numbers of bytes of which there are enough, be their count even or odd.
+bytes-front : (s : List ℕ) (n : ℕ) → 2 * n ≤ length s → Below 256 s → take (2 * n) (bytes (words s)) ≡ take (2 * n) s
+bytes-front s n h small =
+    let even : length (take (2 * n) s) % 2 ≡ 0 = rw length-take (omega arith) in
+    rw (← halves-take, ← pairs-take, bytes-words (take (2 * n) s) even (take-below 256 (2 * n) s small))
+
+-- A copy of bytes over a part is one of the numbers that they hold.
+pub bytes-copy : (tb : List ℕ) → length tb % 2 ≡ 0 → Below 256 tb → (src : List ℕ) → Below 256 src → (at from n : ℕ)
+    → from + 2 * n ≤ length src → bytes (paste (words tb) at (words (drop from src)) n) ≡ paste tb (2 * at) (drop from src) (2 * n)
+bytes-copy tb even small src srcSmall at from n h =
+    let enough : 2 * n ≤ length (drop from src) = rw length-drop (omega arith) in
+    let below : Below 256 (drop from src) = λ k. rw getD-drop (srcSmall (from + k)) in
+    rw (halves-paste, bytes-words tb even small, bytes-front (drop from src) n enough below)

@@ -1,0 +1,405 @@
+/* Every entry on buffers that were allocated with the exact length that is lent: short, odd, empty and right ones.
+ *
+ * Run under AddressSanitizer and valgrind, which see each byte read or written outside of them.
+ */
+#include "vermolgas.h"
+
+#include <stdbool.h>
+#include <stdio.h>
+#include <stdlib.h>
+#include <string.h>
+
+/* Of the group that is running. */
+static unsigned checks, faults;
+
+#define CHECK(holds) check((holds), #holds, __LINE__)
+
+static void check(bool holds, const char *what, int line)
+{
+    checks++;
+    if (!holds && ++faults <= 5)
+        printf("  boundary.c:%d: %s\n", line, what);
+}
+
+/* A buffer of its own allocation, and what it held at first. */
+struct buffer {
+    uint8_t *bytes;
+    size_t length;
+    uint8_t *before;
+};
+
+static void *allocate(size_t length)
+{
+    void *bytes = malloc(length);
+    if (bytes == NULL && length > 0) {
+        fprintf(stderr, "no memory\n");
+        exit(2);
+    }
+    return bytes;
+}
+
+/* A buffer that holds the bytes given, or a pattern. */
+static struct buffer lend(const uint8_t *bytes, size_t length)
+{
+    struct buffer buffer = {allocate(length), length, allocate(length)};
+    for (size_t i = 0; i < length; i++)
+        buffer.bytes[i] = buffer.before[i] = bytes == NULL ? (uint8_t)(i * 37 + 11) : bytes[i];
+    return buffer;
+}
+
+static struct buffer pattern(size_t length)
+{
+    return lend(NULL, length);
+}
+
+/* NULL for no bytes. */
+static const struct buffer none;
+
+static bool unchanged_from(const struct buffer *buffer, size_t start)
+{
+    if (start >= buffer->length)
+        return true;
+    return memcmp(buffer->bytes + start, buffer->before + start, buffer->length - start) == 0;
+}
+
+static bool unchanged(const struct buffer *buffer)
+{
+    return unchanged_from(buffer, 0);
+}
+
+static void give_back(struct buffer *buffer)
+{
+    free(buffer->bytes);
+    free(buffer->before);
+}
+
+/* What is lent to reset and packet, in the order of the arguments. */
+enum { BLOCK, STAGED, LIVE, GAINS, REPLY, PARTS };
+
+static const size_t right_lengths[PARTS] = {VERMOLGAS_BLOCK_BYTES, VERMOLGAS_MAP_BYTES, VERMOLGAS_MAP_BYTES,
+                                            VERMOLGAS_GAINS_BYTES, VERMOLGAS_REPLY_BYTES};
+
+static uint64_t reset(struct buffer *parts)
+{
+    return vermolgas_reset(parts[BLOCK].bytes, parts[BLOCK].length, parts[STAGED].bytes, parts[STAGED].length,
+                           parts[LIVE].bytes, parts[LIVE].length, parts[GAINS].bytes, parts[GAINS].length);
+}
+
+static uint64_t packet(const struct buffer *packet, struct buffer *parts)
+{
+    return vermolgas_packet(packet->bytes, packet->length, parts[BLOCK].bytes, parts[BLOCK].length,
+                            parts[STAGED].bytes, parts[STAGED].length, parts[LIVE].bytes, parts[LIVE].length,
+                            parts[GAINS].bytes, parts[GAINS].length, parts[REPLY].bytes, parts[REPLY].length);
+}
+
+/* A state after reset, of the right lengths. */
+static void start(struct buffer *parts)
+{
+    for (int part = 0; part < PARTS; part++)
+        parts[part] = pattern(right_lengths[part]);
+    CHECK(reset(parts) == VERMOLGAS_ACCEPTED);
+}
+
+static void end(struct buffer *parts)
+{
+    for (int part = 0; part < PARTS; part++)
+        give_back(&parts[part]);
+}
+
+/* Takes the present bytes as those from before. */
+static void settle(struct buffer *parts)
+{
+    for (int part = 0; part < PARTS; part++)
+        if (parts[part].length > 0)
+            memcpy(parts[part].before, parts[part].bytes, parts[part].length);
+}
+
+/* A made packet in an allocation of its exact length. */
+static struct buffer make(uint16_t opcode, uint8_t options, const uint8_t *data, size_t length)
+{
+    struct buffer lent = lend(data, length), room = pattern(VERMOLGAS_LONGEST);
+    uint64_t made = vermolgas_make(opcode, options, lent.bytes, lent.length, room.bytes, room.length);
+    CHECK(VERMOLGAS_STATUS(made) == VERMOLGAS_ACCEPTED);
+    CHECK(unchanged(&lent));
+    CHECK(unchanged_from(&room, VERMOLGAS_MAKE_LENGTH(made)));
+    struct buffer packet = lend(room.bytes, VERMOLGAS_MAKE_LENGTH(made));
+    give_back(&lent);
+    give_back(&room);
+    return packet;
+}
+
+/* Data that starts with a head and goes on with small numbers, words or points. */
+static struct buffer data(size_t length, const uint8_t *head, size_t head_length)
+{
+    struct buffer data = pattern(length);
+    for (size_t i = 0; i < length; i++)
+        data.bytes[i] = i < head_length ? head[i] : (uint8_t)(i % 2 == 0 ? i : 1);
+    return data;
+}
+
+/* Each command with as much data as it takes, at the end of its table. */
+static const struct {
+    uint16_t opcode;
+    bool read;
+    size_t length;
+    uint8_t head[11];
+} commands[] = {
+    {0x11, false, 1, {4}},
+    {0x11, true, 0, {0}},
+    {0x12, false, 1, {1}},
+    {0x12, true, 0, {0}},
+    {0x13, false, 2, {0xFF, 0xFF}},
+    {0x13, true, 0, {0}},
+    {0x1A, false, 1, {8}},
+    {0x1A, true, 0, {0}},
+    {0x1B, false, 1, {0xFF}},
+    {0x1B, true, 0, {0}},
+    {0x1C, false, 1, {3}},
+    {0x1C, true, 0, {0}},
+    {0x1D, false, 1, {1}},
+    {0x1D, true, 0, {0}},
+    {0x2B, false, 6 + 2 * 250, {0, 0, 250, 0, 0xE6, 0x06}}, /* gains 1766 to 2015, all colours */
+    {0x2B, false, 6 + 2 * 250, {0, 3, 250, 0, 0xE6, 0x06}},
+    {0x2B, true, 5, {1, 0, 0, 254, 0}},
+    {0x2B, true, 5, {3, 0xE2, 0x06, 254, 0}},             /* gains 1762 to 2015 */
+    {0x34, false, 2 + 4 * 126, {0x42, 0x07}},             /* points 1858 to 1983 */
+    {0x34, true, 4, {0, 0, 127, 0}},
+    {0x34, true, 4, {0x41, 0x07, 127, 0}},                /* points 1857 to 1983 */
+    {0x36, false, 1, {1}},
+    {0x36, true, 0, {0}},
+    {0x38, false, 2 + 4 * 25, {5, 5}},
+    {0x38, true, 0, {0}},
+    {0x39, false, 1, {0}},
+    {0x39, true, 0, {0}},
+    {0x60, false, 4, {87, 1, 1, 1}},
+    {0x60, true, 1, {87}},
+    {0x61, false, 2, {87, 1}},
+    {0x61, true, 1, {87}},
+    {0x65, false, 7, {13, 20, 0, 0, 0, 100, 1}},
+    {0x65, true, 1, {13}},
+    {0x6C, false, 1, {1}},
+    {0x6C, true, 0, {0}},
+    {0x6D, false, 11, {2, 1, 11, 3, 1, 2, 1, 4, 4, 1, 1}},
+    {0x6D, true, 1, {2}},
+    {0x35, false, 5, {0, 62, 0, 32, 0}},
+    {0x35, true, 0, {0}},
+};
+
+#define COMMANDS (sizeof commands / sizeof *commands)
+
+static struct buffer command(size_t index, uint8_t options)
+{
+    struct buffer filled = data(commands[index].length, commands[index].head, sizeof commands[index].head);
+    if (commands[index].read)
+        options |= VERMOLGAS_OPTION_READ;
+    struct buffer made = make(commands[index].opcode, options | VERMOLGAS_OPTION_LENGTH, filled.bytes, filled.length);
+    give_back(&filled);
+    return made;
+}
+
+/* 35h with its two lists, 0, 1, 2 and so on. */
+static struct buffer lists(void)
+{
+    uint8_t written[189] = {1};
+    for (size_t i = 0; i < 94; i++)
+        written[1 + 2 * i] = (uint8_t)(i < 62 ? i : i - 62);
+    return make(0x35, VERMOLGAS_OPTION_LENGTH, written, sizeof written);
+}
+
+/* An accepted packet: the answer, the reply and what lies behind it, and the reply read from a buffer of its length. */
+static void accept(const struct buffer *lent, struct buffer *parts)
+{
+    settle(parts);
+    uint64_t answer = packet(lent, parts);
+    size_t length = VERMOLGAS_PACKET_REPLY_LENGTH(answer);
+    CHECK(VERMOLGAS_STATUS(answer) == VERMOLGAS_ACCEPTED);
+    CHECK(unchanged(lent));
+    CHECK(unchanged_from(&parts[REPLY], length));
+    if (length > 0) {
+        bool checksum = lent->bytes[0] & VERMOLGAS_OPTION_CHECKSUM;
+        struct buffer reply = lend(parts[REPLY].bytes, length);
+        uint64_t read = vermolgas_read_reply(reply.bytes, reply.length, checksum);
+        CHECK(VERMOLGAS_STATUS(read) == VERMOLGAS_ACCEPTED);
+        CHECK(VERMOLGAS_REPLY_LENGTH(read) == length - VERMOLGAS_REPLY_OFFSET - checksum);
+        CHECK(unchanged(&reply));
+        give_back(&reply);
+    }
+}
+
+/* A packet refused without a reply. */
+static void refuse(const struct buffer *lent, struct buffer *parts, uint64_t due)
+{
+    CHECK(packet(lent, parts) == due);
+    CHECK(unchanged(lent));
+    for (int part = 0; part < PARTS; part++)
+        CHECK(unchanged(&parts[part]));
+}
+
+static void right_buffers(void)
+{
+    static const uint8_t options[] = {0, VERMOLGAS_OPTION_CHECKSUM | VERMOLGAS_OPTION_REPLY,
+                                      VERMOLGAS_OPTION_TWO_BYTE_OPCODE | VERMOLGAS_OPTION_CHECKSUM};
+    struct buffer parts[PARTS];
+    start(parts);
+    for (int listed = 0; listed < 2; listed++) {
+        for (size_t i = 0; i < COMMANDS; i++) {
+            for (size_t j = 0; j < sizeof options; j++) {
+                struct buffer lent = command(i, options[j]);
+                accept(&lent, parts);
+                give_back(&lent);
+            }
+        }
+        struct buffer lent = lists();
+        accept(&lent, parts);
+        give_back(&lent);
+    }
+    end(parts);
+}
+
+/* One of the lengths wrong, on packets and on reset. */
+static void wrong_buffers(void)
+{
+    for (int part = 0; part < PARTS; part++) {
+        size_t right = right_lengths[part];
+        size_t lengths[] = {0, 1, 2, 3, right / 2, right - 2, right - 1, right + 1, right + 2, 2 * right};
+        for (size_t i = 0; i < sizeof lengths / sizeof *lengths; i++) {
+            struct buffer parts[PARTS];
+            start(parts);
+            settle(parts);
+            struct buffer kept = parts[part];
+            bool fits = part == REPLY && lengths[i] > right;
+            for (int null = 0; null < (lengths[i] == 0 ? 2 : 1); null++) {
+                parts[part] = null ? none : pattern(lengths[i]);
+                for (size_t j = 0; j < COMMANDS && !fits; j++) {
+                    struct buffer lent = command(j, VERMOLGAS_OPTION_REPLY);
+                    refuse(&lent, parts, VERMOLGAS_REFUSED_LENT);
+                    give_back(&lent);
+                }
+                refuse(&none, parts, fits ? VERMOLGAS_REFUSED_TOO_SHORT : VERMOLGAS_REFUSED_LENT);
+                if (part != REPLY) {
+                    CHECK(reset(parts) == VERMOLGAS_REFUSED_LENT);
+                    for (int other = 0; other < PARTS; other++)
+                        CHECK(unchanged(&parts[other]));
+                }
+                give_back(&parts[part]);
+            }
+            parts[part] = kept;
+            end(parts);
+        }
+    }
+}
+
+/* Packets cut at every length, and longer than 512 bytes. */
+static void cut_packets(void)
+{
+    struct buffer parts[PARTS];
+    start(parts);
+    settle(parts);
+    refuse(&none, parts, VERMOLGAS_REFUSED_TOO_SHORT);
+    CHECK(vermolgas_read(none.bytes, none.length) == VERMOLGAS_REFUSED_TOO_SHORT);
+    for (size_t i = 0; i < COMMANDS; i++) {
+        struct buffer whole = command(i, VERMOLGAS_OPTION_CHECKSUM | VERMOLGAS_OPTION_TWO_BYTE_OPCODE);
+        for (size_t length = 0; length < whole.length; length++) {
+            struct buffer lent = lend(whole.bytes, length);
+            unsigned due = length < 6 ? VERMOLGAS_REFUSED_TOO_SHORT : VERMOLGAS_REFUSED_LENGTH;
+            CHECK(vermolgas_read(lent.bytes, lent.length) == due);
+            CHECK(VERMOLGAS_STATUS(packet(&lent, parts)) == due);
+            CHECK(unchanged(&lent));
+            for (int part = 0; part < REPLY; part++)
+                CHECK(unchanged(&parts[part]));
+            give_back(&lent);
+        }
+        CHECK(VERMOLGAS_STATUS(vermolgas_read(whole.bytes, whole.length)) == VERMOLGAS_ACCEPTED);
+        give_back(&whole);
+    }
+    settle(parts);
+    for (size_t length = VERMOLGAS_LONGEST + 1; length < 100000; length *= 2) {
+        struct buffer lent = pattern(length);
+        lent.bytes[0] = lent.before[0] = 0x04;
+        CHECK(vermolgas_read(lent.bytes, lent.length) == VERMOLGAS_REFUSED_TOO_LONG);
+        refuse(&lent, parts, VERMOLGAS_REFUSED_TOO_LONG);
+        give_back(&lent);
+    }
+    end(parts);
+}
+
+/* Making into buffers of any length, from data of any length. */
+static void make_packets(void)
+{
+    static const size_t lengths[] = {0, 1, 2, 255, 510, 511, 512, 513, 1024};
+    for (size_t i = 0; i < sizeof lengths / sizeof *lengths; i++) {
+        struct buffer room = pattern(lengths[i]);
+        bool fits = lengths[i] >= VERMOLGAS_LONGEST;
+        for (size_t length = 0; length <= 600; length++) {
+            struct buffer lent = pattern(length);
+            uint64_t made = vermolgas_make(0x34, VERMOLGAS_OPTION_LENGTH | VERMOLGAS_OPTION_CHECKSUM, lent.bytes,
+                                           lent.length, room.bytes, room.length);
+            unsigned due = !fits                             ? VERMOLGAS_REFUSED_LENT
+                           : length + 5 > VERMOLGAS_LONGEST  ? VERMOLGAS_REFUSED_TOO_LONG
+                           : length < 6 || length % 4 != 2   ? VERMOLGAS_REFUSED_SIZE
+                                                             : VERMOLGAS_ACCEPTED;
+            CHECK(VERMOLGAS_STATUS(made) == due);
+            CHECK(VERMOLGAS_MAKE_LENGTH(made) == (due == VERMOLGAS_ACCEPTED ? length + 5 : 0));
+            CHECK(unchanged(&lent));
+            CHECK(unchanged_from(&room, VERMOLGAS_MAKE_LENGTH(made)));
+            if (room.length > 0)
+                memcpy(room.before, room.bytes, room.length);
+            give_back(&lent);
+        }
+        give_back(&room);
+    }
+    CHECK(vermolgas_make(0x11, 0, none.bytes, none.length, none.bytes, none.length) == VERMOLGAS_REFUSED_LENT);
+}
+
+/* Replies of every length, up to the longest and past it. */
+static void read_replies(void)
+{
+    CHECK(vermolgas_read_reply(none.bytes, none.length, 0) == VERMOLGAS_REFUSED_TOO_SHORT);
+    CHECK(vermolgas_read_reply(none.bytes, none.length, 1) == VERMOLGAS_REFUSED_TOO_SHORT);
+    for (size_t length = 0; length <= 600; length++) {
+        struct buffer reply = pattern(length);
+        for (size_t i = 0; i < length; i++)
+            reply.bytes[i] = reply.before[i] = 0;
+        if (length >= 3) {
+            reply.bytes[1] = reply.before[1] = (uint8_t)(length - 3);
+            reply.bytes[2] = reply.before[2] = (uint8_t)((length - 3) >> 8);
+        }
+        uint64_t read = vermolgas_read_reply(reply.bytes, reply.length, 0);
+        if (length >= 3 && length <= VERMOLGAS_LONGEST)
+            CHECK(read == (uint64_t)(length - 3) << 16);
+        else
+            CHECK(read == (length < 3 ? VERMOLGAS_REFUSED_TOO_SHORT : VERMOLGAS_REFUSED_TOO_LONG));
+        unsigned due = length < 4                   ? VERMOLGAS_REFUSED_TOO_SHORT
+                       : length > VERMOLGAS_LONGEST ? VERMOLGAS_REFUSED_TOO_LONG
+                                                    : VERMOLGAS_REFUSED_LENGTH;
+        CHECK(vermolgas_read_reply(reply.bytes, reply.length, 1) == due);
+        CHECK(unchanged(&reply));
+        give_back(&reply);
+    }
+}
+
+static const struct {
+    const char *name;
+    void (*run)(void);
+} groups[] = {
+    {"right buffers", right_buffers}, {"wrong buffers", wrong_buffers}, {"cut packets", cut_packets},
+    {"making", make_packets},         {"replies", read_replies},
+};
+
+int main(void)
+{
+    unsigned passed = 0, failed = 0;
+    for (size_t i = 0; i < sizeof groups / sizeof *groups; i++) {
+        checks = faults = 0;
+        groups[i].run();
+        if (faults == 0) {
+            passed++;
+            printf("ok %s: %u checks\n", groups[i].name, checks);
+        } else {
+            failed++;
+            printf("FAILED %s: %u of %u checks\n", groups[i].name, faults, checks);
+        }
+    }
+    printf("%u passed, %u failed\n", passed, failed);
+    return failed == 0 ? EXIT_SUCCESS : EXIT_FAILURE;
+}

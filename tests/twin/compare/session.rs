@@ -1,0 +1,239 @@
+//! Twin and library side by side, each on memory of its own, compared in full after each call.
+
+use twin::block;
+use twin::command::Opcode;
+use twin::front_end::{self, Answer, Lent, GAINS_BYTES, MAP_BYTES};
+use twin::packet::{Header, LONGEST};
+
+use crate::counts::{Accepted, Refused};
+use crate::library::{Library, LIBRARY};
+use crate::random::Random;
+use crate::report::{hex, Report};
+
+/// What is lent, in the order of the arguments.
+#[derive(Clone, Copy, Debug, PartialEq, Eq)]
+pub enum Part {
+    Block,
+    Staged,
+    Live,
+    Gains,
+    Reply,
+}
+
+impl Part {
+    pub const ALL: [Part; 5] = [Part::Block, Part::Staged, Part::Live, Part::Gains, Part::Reply];
+
+    /// The right length; of the reply buffer the least.
+    pub fn length(self) -> usize {
+        match self {
+            Part::Block => block::BYTES,
+            Part::Staged | Part::Live => MAP_BYTES,
+            Part::Gains => GAINS_BYTES,
+            Part::Reply => LONGEST,
+        }
+    }
+}
+
+/// Bytes before and behind a lent buffer that must stay as they are; an odd number, so that no
+/// buffer is aligned.
+const GUARD: usize = 17;
+
+/// The longest buffer lent.
+const LONGEST_BUFFER: usize = 80_000;
+
+/// A lent buffer between its guards.
+#[derive(Clone, PartialEq, Eq)]
+struct Buffer(Vec<u8>);
+
+impl Buffer {
+    fn lent(&self) -> &[u8] {
+        &self.0[GUARD..self.0.len() - GUARD]
+    }
+
+    fn lent_mut(&mut self) -> &mut [u8] {
+        let end = self.0.len() - GUARD;
+        &mut self.0[GUARD..end]
+    }
+}
+
+/// The memory of one side.
+#[derive(Clone, PartialEq, Eq)]
+struct Side([Buffer; 5]);
+
+impl Side {
+    fn lend(&mut self) -> (Lent<'_>, &mut [u8]) {
+        let [block, staged, live, gains, reply] = self.0.each_mut().map(Buffer::lent_mut);
+        (Lent { block, staged, live, gains }, reply)
+    }
+
+    /// Block and tables.
+    fn state(&self) -> &[Buffer] {
+        &self.0[..4]
+    }
+
+    /// The block's bytes without a meaning.
+    fn meaningless(&self) -> &[u8] {
+        self.0[Part::Block as usize].lent().get(block::JUDGED..).unwrap_or_default()
+    }
+}
+
+pub struct Session {
+    pub random: Random,
+    pub report: Report,
+    pub accepted: Accepted,
+    pub refused: Refused,
+    /// How the entries are called.
+    pub entries: Library,
+    twin: Side,
+    library: Side,
+    /// What buffers are filled from.
+    filling: Vec<u8>,
+}
+
+impl Session {
+    pub fn new(report: Report) -> Self {
+        let mut random = report.shared_random();
+        let filling = random.bytes(2 * LONGEST_BUFFER);
+        let side = Side(Part::ALL.map(|part| Buffer(filling[..part.length() + 2 * GUARD].to_vec())));
+        Session {
+            random,
+            report,
+            accepted: Accepted::default(),
+            refused: Refused::default(),
+            entries: LIBRARY,
+            twin: side.clone(),
+            library: side,
+            filling,
+        }
+    }
+
+    /// Runs a group of comparisons and prints its line.
+    pub fn group(&mut self, name: &str, run: impl FnOnce(&mut Session)) {
+        self.random = self.report.start_group();
+        run(self);
+        self.report.end_group(name);
+    }
+
+    pub fn expect(&mut self, holds: bool, what: impl FnOnce() -> String) {
+        self.report.expect(holds, what);
+    }
+
+    /// What the library's side holds.
+    pub fn bytes(&self, part: Part) -> &[u8] {
+        self.library.0[part as usize].lent()
+    }
+
+    /// Puts bytes into a part of both sides.
+    pub fn put(&mut self, part: Part, place: usize, bytes: &[u8]) {
+        for side in [&mut self.twin, &mut self.library] {
+            side.0[part as usize].lent_mut()[place..place + bytes.len()].copy_from_slice(bytes);
+        }
+    }
+
+    /// Fills a part from `place` on with anything.
+    pub fn fill(&mut self, part: Part, place: usize) {
+        let start = self.random.below(LONGEST_BUFFER);
+        for side in [&mut self.twin, &mut self.library] {
+            let filled = &mut side.0[part as usize].lent_mut()[place..];
+            filled.copy_from_slice(&self.filling[start..start + filled.len()]);
+        }
+    }
+
+    /// `vermolgas_reset` on memory that holds anything; gives the twin's status.
+    pub fn restart(&mut self) -> u8 {
+        for part in Part::ALL {
+            self.fill(part, 0);
+        }
+        self.report.inputs += 1;
+        let answer = self.entries.reset(self.library.lend().0);
+        let status = front_end::reset(self.twin.lend().0).map_or_else(|refusal| refusal.number(), |()| 0);
+        self.expect(answer == status.into(), || format!("reset gives {answer:#x}, not {status}"));
+        self.compare(|| "reset".to_string());
+        status
+    }
+
+    /// Runs with other lengths lent; the right ones, and what they held, come back after it.
+    pub fn with_lengths(&mut self, lengths: &[(Part, usize)], run: impl FnOnce(&mut Session)) {
+        let before = (self.twin.clone(), self.library.clone());
+        for (part, length) in lengths {
+            for side in [&mut self.twin, &mut self.library] {
+                let bytes = &mut side.0[*part as usize].0;
+                // The bytes that fit remain, so that the length is all that is wrong.
+                bytes.truncate(GUARD + length);
+                let more = length + 2 * GUARD - bytes.len();
+                bytes.extend(&self.filling[..more]);
+            }
+        }
+        run(self);
+        (self.twin, self.library) = before;
+    }
+
+    /// `vermolgas_packet`, and `vermolgas_read_reply` on the reply; gives the twin's answer.
+    pub fn send(&mut self, packet: &[u8]) -> Answer {
+        self.report.inputs += 1;
+        self.fill(Part::Reply, 0);
+        let lent_packet = packet.to_vec();
+        let (lent, reply) = self.library.lend();
+        let answer = self.entries.packet(&lent_packet, lent, reply);
+        self.expect(lent_packet == packet, || format!("writes into its packet {}", hex(packet)));
+        // The twin has yet to take the packet, so its memory is what both sides held before.
+        let is_read = packet.first().is_some_and(|header| header & 0x80 != 0);
+        let changed = self.library.state() != self.twin.state();
+        self.expect(!changed || answer & 0xFF == 0 && !is_read, || {
+            format!("changes what is lent, answer {answer:#x}: {}", hex(packet))
+        });
+        let changed = self.library.meaningless() != self.twin.meaningless();
+        self.expect(!changed, || format!("changes block bytes without a meaning: {}", hex(packet)));
+
+        let (lent, reply) = self.twin.lend();
+        let due = front_end::packet(packet, lent, reply);
+        let due_number = u64::from(due.status) | (due.length as u64) << 8;
+        self.expect(answer == due_number, || {
+            format!("packet gives {answer:#x}, not {due_number:#x}: {}", hex(packet))
+        });
+        self.compare(|| format!("packet {}", hex(packet)));
+        self.count(packet, due);
+        self.read_reply(packet, due);
+        due
+    }
+
+    /// Every byte of both sides, guards and the reply buffer behind the reply included. After a
+    /// difference both go on from the twin's.
+    fn compare(&mut self, call: impl FnOnce() -> String) {
+        if self.library == self.twin {
+            return;
+        }
+        let differences = Part::ALL.into_iter().filter_map(|part| {
+            let (is, due) = (&self.library.0[part as usize].0, &self.twin.0[part as usize].0);
+            let place = is.iter().zip(due).position(|(is, due)| is != due)?;
+            let byte = place as isize - GUARD as isize;
+            Some(format!("{part:?} byte {byte} is {:02X}, not {:02X}", is[place], due[place]))
+        });
+        let differences: Vec<String> = differences.collect();
+        self.report.expect(false, || format!("{}: {}", differences.join("; "), call()));
+        self.library.clone_from(&self.twin);
+    }
+
+    fn count(&mut self, packet: &[u8], answer: Answer) {
+        if answer.status != 0 {
+            self.refused.count(answer.status);
+        } else if let Some(opcode) = Opcode::find(packet[1].into()) {
+            self.accepted.count(opcode, Header::from_byte(packet[0]));
+        }
+    }
+
+    /// Every reply of the front end reads back as it was meant.
+    fn read_reply(&mut self, packet: &[u8], answer: Answer) {
+        if answer.length == 0 {
+            return;
+        }
+        let checksum = packet[0] >> 5 & 1;
+        let reply = &self.bytes(Part::Reply)[..answer.length];
+        let size = answer.length - 3 - usize::from(checksum);
+        let (read, due) =
+            (self.entries.read_reply(reply, checksum), u64::from(answer.status) << 8 | (size as u64) << 16);
+        self.expect(read == due, || {
+            format!("the reply reads back as {read:#x}, not {due:#x}: {}", hex(packet))
+        });
+    }
+}

@@ -1,0 +1,49 @@
+//! Compares `vermolgas_reset` and `vermolgas_packet` with the twin over long sessions: after each
+//! call the answer and every lent byte, the reply buffer behind the reply and the bytes around each
+//! buffer included. The seed may be given as the one argument; it and all counts are printed, and
+//! counts that fall short are failures.
+
+mod counts;
+mod generate;
+mod lending;
+#[allow(dead_code, reason = "each program calls some of the entries")]
+mod library;
+mod random;
+mod recipe;
+mod report;
+mod session;
+mod talking;
+
+use std::process::ExitCode;
+
+use report::Report;
+use session::Session;
+use twin::refusal::Refusal;
+
+fn main() -> ExitCode {
+    let mut session = match Report::from_arguments() {
+        Ok(report) => Session::new(report),
+        Err(status) => return status,
+    };
+    session.group("scripts", talking::scripts);
+    session.group("sessions", talking::sessions);
+    session.group("start and count", talking::start_and_count);
+    session.group("order of refusals", talking::order);
+    session.group("apply, then anything", talking::apply);
+    session.group("lists, smooth points and levels kept", talking::kept);
+    session.group("gains", talking::gains);
+    session.group("random bytes", talking::random_bytes);
+    session.group("lent lengths", lending::lengths);
+    session.group("NULL for an empty slice", lending::null_pointers);
+    session.group("every byte of the block", lending::every_byte);
+    session.group("limits of the block's fields", lending::limits);
+    session.group("entries of the block's lists", lending::lists);
+    session.group("bytes without a meaning", lending::meaningless);
+
+    let (report, accepted, refused) = (&mut session.report, &session.accepted, &session.refused);
+    accepted.check(report, "accepted");
+    let refusals = recipe::FAULTS.into_iter().chain([Refusal::PastTable]);
+    refused.check(report, "refused", &Vec::from_iter([Refusal::Lent].into_iter().chain(refusals)));
+    counts::check_inputs(report);
+    report.finish()
+}

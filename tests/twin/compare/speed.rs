@@ -1,0 +1,276 @@
+//! Measures the front end: calls a second against the twin, in one run, and the stack that each C
+//! entry needs. From the repository's folder, after `rt staticlib vermolgas`:
+//!
+//! `cargo run --profile speed --offline --locked --manifest-path tests/twin/Cargo.toml --bin bench_front_end`
+
+mod generate;
+#[allow(dead_code, reason = "each program calls some of the entries")]
+mod library;
+mod random;
+
+use std::hint::black_box;
+use std::process::ExitCode;
+use std::time::Instant;
+
+use library::LIBRARY;
+use random::Random;
+use twin::command::{Direction, Opcode};
+use twin::front_end::{self, Memory};
+use twin::packet::{self, Header, LONGEST};
+use twin::scripts::hex;
+
+/// Each measurement is repeated so often, and its median taken.
+const REPETITIONS: usize = 31;
+
+/// A repetition calls at least so often.
+const CALLS: usize = 20_000;
+
+const SEED: u64 = 0x6761_696E_7300;
+
+/// What one side does with one packet; none is a reset.
+type Call = fn(Option<&[u8]>, &mut Memory, &mut [u8; LONGEST]) -> u64;
+
+fn library_call(packet: Option<&[u8]>, memory: &mut Memory, reply: &mut [u8; LONGEST]) -> u64 {
+    match packet {
+        Some(packet) => LIBRARY.packet(packet, memory.lend(), reply),
+        None => LIBRARY.reset(memory.lend()),
+    }
+}
+
+fn twin_call(packet: Option<&[u8]>, memory: &mut Memory, reply: &mut [u8; LONGEST]) -> u64 {
+    match packet {
+        Some(packet) => {
+            let answer = front_end::packet(packet, memory.lend(), reply);
+            u64::from(answer.status) | (answer.length as u64) << 8
+        }
+        None => front_end::reset(memory.lend()).map_or_else(|refusal| refusal.number().into(), |()| 0),
+    }
+}
+
+fn main() -> ExitCode {
+    let mut random = Random::new(SEED);
+    let mixed = mixed_session(&mut random);
+    let map = packet_of(0x14, Opcode::Map, &[&[7, 0][..], &random.bytes(4 * 126)].concat());
+    let cases = [
+        ("mixed session", mixed.iter().map(|packet| Some(&packet[..])).collect()),
+        ("11h write", vec![Some(&[0x04, 0x11, 0x01][..])]),
+        ("34h write of 126 points", vec![Some(&map[..])]),
+        ("36h apply", vec![Some(&[0x04, 0x36, 0x01][..])]),
+        ("reset", vec![None]),
+    ];
+    let mut memory = Memory::default();
+    let statuses = mixed.iter().map(|packet| twin_call(Some(packet), &mut memory, &mut [0; LONGEST]) & 0xFF);
+    let accepted = statuses.filter(|status| *status == 0).count();
+    println!("mixed session: {} packets, {accepted} of them accepted", mixed.len());
+    println!("calls a second, in thousands; medians of {REPETITIONS}; above 1 the library is faster");
+    println!("{:<28}{:>10}{:>10}{:>14}", "", "library", "twin", "library/twin");
+    for (name, packets) in cases {
+        let Some([library, twin, ratio]) = compare(&packets) else {
+            println!("{name}: the library and the twin differ");
+            return ExitCode::FAILURE;
+        };
+        println!("{name:<28}{:>10.0}{:>10.0}{ratio:>14.2}", library / 1e3, twin / 1e3);
+    }
+    println!();
+    stack::report(&mixed);
+    ExitCode::SUCCESS
+}
+
+/// Calls a second of the library and of the twin, and their ratio, each the median; none if they end
+/// in different states.
+fn compare(packets: &[Option<&[u8]>]) -> Option<[f64; 3]> {
+    let (mut library, mut twin) = (Memory::default(), Memory::default());
+    let mut figures = [const { Vec::new() }; 3];
+    for repetition in 0..=REPETITIONS {
+        // Turn about, so that what disturbs one disturbs the other.
+        let (of_library, of_twin) = if repetition % 2 == 0 {
+            let of_library = calls_a_second(library_call, packets, &mut library);
+            (of_library, calls_a_second(twin_call, packets, &mut twin))
+        } else {
+            let of_twin = calls_a_second(twin_call, packets, &mut twin);
+            (calls_a_second(library_call, packets, &mut library), of_twin)
+        };
+        // The first one warms up.
+        if repetition > 0 {
+            for (figures, figure) in figures.iter_mut().zip([of_library, of_twin, of_library / of_twin]) {
+                figures.push(figure);
+            }
+        }
+    }
+    (library == twin).then(|| figures.map(median))
+}
+
+fn calls_a_second(call: Call, packets: &[Option<&[u8]>], memory: &mut Memory) -> f64 {
+    let mut reply = [0; LONGEST];
+    let rounds = CALLS.div_ceil(packets.len());
+    let start = Instant::now();
+    for _ in 0..rounds {
+        for packet in packets {
+            black_box(call(black_box(*packet), memory, &mut reply));
+        }
+    }
+    (rounds * packets.len()) as f64 / start.elapsed().as_secs_f64()
+}
+
+fn median(mut figures: Vec<f64>) -> f64 {
+    figures.sort_by(f64::total_cmp);
+    figures[figures.len() / 2]
+}
+
+/// Reads and writes of all opcodes with any options, on a full map, one in sixteen damaged.
+fn mixed_session(random: &mut Random) -> Vec<Vec<u8>> {
+    let mut session = Vec::new();
+    for _ in 0..4000 {
+        let (opcode, direction) = (random.pick(&Opcode::ALL), random.pick(&Direction::BOTH));
+        let header = 0x14 | random.byte() & 0x68 | if direction == Direction::Read { 0x80 } else { 0 };
+        let mut data = generate::data(random, opcode, direction, LONGEST - 6);
+        if let Some(place) = generate::start_place(opcode, direction) {
+            data[place].copy_from_slice(&(random.below(1700) as u16).to_le_bytes());
+        }
+        if (opcode, direction, data.first()) == (Opcode::ControlPoints, Direction::Write, Some(&0)) {
+            data = hex("00 3E 00 20 00");
+        }
+        let mut packet = packet_of(header, opcode, &data);
+        if random.below(16) == 0 {
+            let place = random.below(packet.len());
+            packet[place] ^= 0x55;
+        }
+        session.push(packet);
+    }
+    session
+}
+
+fn packet_of(header: u8, opcode: Opcode, data: &[u8]) -> Vec<u8> {
+    let mut buffer = [0; LONGEST];
+    let made = packet::make(Header::from_byte(header), opcode.number().into(), data, &mut buffer);
+    buffer[..made.expect("the command is sound")].to_vec()
+}
+
+/// The stack that an entry needs: it is called on a painted one, and what it has written is counted.
+#[cfg(target_arch = "x86_64")]
+mod stack {
+    use std::arch::asm;
+
+    use twin::front_end::Memory;
+    use twin::packet::LONGEST;
+
+    use crate::library;
+
+    const BYTES: usize = 64 * 1024;
+
+    /// More than any entry has.
+    const ARGUMENTS: usize = 12;
+
+    /// Those behind the sixth are passed on the stack, of 8 bytes each.
+    const PASSED_ON_STACK: usize = 8 * (ARGUMENTS - 6);
+
+    struct Painted {
+        stack: Vec<u8>,
+        /// The most that was written, return address included.
+        most: usize,
+    }
+
+    impl Painted {
+        fn new() -> Self {
+            Painted { stack: vec![0; BYTES], most: 0 }
+        }
+
+        /// Calls an entry, with each of two paints, so that a byte written in the one shows in the
+        /// other.
+        fn call(&mut self, entry: *const (), arguments: &[u64]) {
+            for paint in [0xA5, 0x5A] {
+                self.stack.fill(paint);
+                let bottom = self.stack.as_mut_ptr() as usize;
+                let top = (bottom + BYTES) & !15;
+                let mut all = [0; ARGUMENTS];
+                all[..arguments.len()].copy_from_slice(arguments);
+                // SAFETY: the callers pass what the entry asks for, and it doesn't look at more.
+                unsafe { call_on(top, entry, &all) };
+                let unwritten = self.stack.iter().take_while(|byte| **byte == paint).count();
+                self.most = self.most.max(top - PASSED_ON_STACK - (bottom + unwritten));
+            }
+        }
+    }
+
+    /// Calls an entry with its stack below `top`, by the System V rules.
+    unsafe fn call_on(top: usize, entry: *const (), arguments: &[u64; ARGUMENTS]) {
+        asm!(
+            "mov r12, rsp",
+            "mov rsp, r13",
+            "push qword ptr [rax + 88]",
+            "push qword ptr [rax + 80]",
+            "push qword ptr [rax + 72]",
+            "push qword ptr [rax + 64]",
+            "push qword ptr [rax + 56]",
+            "push qword ptr [rax + 48]",
+            "mov r9, [rax + 40]",
+            "mov r8, [rax + 32]",
+            "mov rcx, [rax + 24]",
+            "mov rdx, [rax + 16]",
+            "mov rsi, [rax + 8]",
+            "mov rdi, [rax]",
+            "call r14",
+            "mov rsp, r12",
+            inout("rax") arguments.as_ptr() => _,
+            out("r12") _,
+            in("r13") top,
+            in("r14") entry,
+            clobber_abi("C"),
+        );
+    }
+
+    /// Pointer and length.
+    fn slice(bytes: &mut [u8]) -> [u64; 2] {
+        [bytes.as_mut_ptr() as u64, bytes.len() as u64]
+    }
+
+    /// The most that each entry needs over these packets.
+    pub fn report(packets: &[Vec<u8>]) {
+        let [mut reset, mut packet, mut read, mut make, mut read_reply] =
+            std::array::from_fn(|_| Painted::new());
+        let mut memory = Memory::default();
+        for bytes in packets {
+            let mut bytes = bytes.clone();
+            let mut reply = [0; LONGEST];
+            let lent = memory.lend();
+            let tables = [lent.block, lent.staged, lent.live, lent.gains].map(slice);
+            packet.call(
+                library::vermolgas_packet as *const (),
+                [[slice(&mut bytes)].as_flattened(), tables.as_flattened(), &slice(&mut reply)]
+                    .concat()
+                    .as_slice(),
+            );
+            read.call(library::vermolgas_read as *const (), &slice(&mut bytes));
+            let size = usize::from(u16::from_le_bytes([reply[1], reply[2]]));
+            let length = (3 + size).min(LONGEST);
+            let [pointer, length] = slice(&mut reply[..length]);
+            read_reply.call(library::vermolgas_read_reply as *const (), &[pointer, length, 0]);
+            let (opcode, options) = (bytes[1], bytes[0]);
+            let data = slice(bytes.get_mut(4..).unwrap_or_default());
+            let mut buffer = [0; LONGEST];
+            let arguments = [[u64::from(opcode), u64::from(options)], data, slice(&mut buffer)];
+            make.call(library::vermolgas_make as *const (), arguments.as_flattened());
+        }
+        let lent = memory.lend();
+        let tables = [lent.block, lent.staged, lent.live, lent.gains].map(slice);
+        reset.call(library::vermolgas_reset as *const (), tables.as_flattened());
+
+        println!("stack written by an entry, its return address included, in bytes");
+        for (name, painted) in [
+            ("vermolgas_reset", reset),
+            ("vermolgas_packet", packet),
+            ("vermolgas_read", read),
+            ("vermolgas_make", make),
+            ("vermolgas_read_reply", read_reply),
+        ] {
+            println!("{name:<28}{:>10}", painted.most);
+        }
+    }
+}
+
+#[cfg(not(target_arch = "x86_64"))]
+mod stack {
+    pub fn report(_: &[Vec<u8>]) {
+        println!("the stack is measured on x86-64 alone");
+    }
+}

@@ -1,0 +1,290 @@
+//! The front end: one packet in, one reply or none out, and reset.
+//!
+//! Settings, staged map, live map and gains are the host's, lent as bytes with each call. They are
+//! judged, read and written where they lie.
+
+use std::ops::Range;
+use std::sync::LazyLock;
+
+use crate::block;
+use crate::command::{Colour, Command, Read, Target, Write};
+use crate::fields::{Fields, Word};
+use crate::packet::{self, Header, LONGEST};
+use crate::refusal::Refusal;
+use crate::reply;
+use crate::settings::{ControlPoints, Point, Settings, COLUMNS, GAINS, POINTS, PWM_PORTS, ROWS};
+
+/// Bytes of the staged and of the live map.
+pub const MAP_BYTES: usize = 4 * POINTS;
+/// Bytes of the gains.
+pub const GAINS_BYTES: usize = 2 * GAINS * 3;
+
+/// What a host lends with each call. A table is lent as its bytes, low byte first.
+pub struct Lent<'a> {
+    pub block: &'a mut [u8],
+    pub staged: &'a mut [u8],
+    pub live: &'a mut [u8],
+    /// Red, green, blue.
+    pub gains: &'a mut [u8],
+}
+
+/// The answer to one packet: 0 or the refusal's number, and the reply's length, 0 for none.
+#[derive(Clone, Copy, Debug, PartialEq, Eq)]
+pub struct Answer {
+    pub status: u8,
+    pub length: usize,
+}
+
+/// "Reset: zeros everywhere, but gains 4096, ..." It writes the whole block and all tables; a wrong
+/// length is refusal 1 and changes nothing.
+pub fn reset(lent: Lent) -> Result<(), Refusal> {
+    static SETTINGS: LazyLock<Vec<u8>> = LazyLock::new(|| Settings::default().bytes());
+    let state = State::of(lent)?;
+    let (settings, rest) = state.block.split_at_mut(block::JUDGED);
+    settings.copy_from_slice(&SETTINGS);
+    rest.fill(0);
+    state.staged.fill([0; 4]);
+    state.live.fill([0; 4]);
+    state.gains.as_flattened_mut().fill(4096_u16.to_le_bytes());
+    Ok(())
+}
+
+/// One packet in, one reply or none out. A reply is written exactly if the packet has a first byte,
+/// its bit 7 or bit 6 is set, and the refusal isn't 1; only an accepted read carries data.
+pub fn packet(packet: &[u8], lent: Lent, reply: &mut [u8]) -> Answer {
+    let Ok(mut state) = State::judged(lent, reply) else {
+        return Answer { status: Refusal::Lent.number(), length: 0 };
+    };
+    let outcome = packet::read(packet).and_then(|reading| state.perform(&reading.command));
+    let (status, data) = match outcome {
+        Ok(data) => (0, data),
+        Err(refusal) => (refusal.number(), NOTHING),
+    };
+    let length = match packet.first().map(|byte| Header::from_byte(*byte)) {
+        Some(header) if header.is_replied_to() => {
+            reply::write(reply, status, data, header.options.checksum_present)
+        }
+        _ => 0,
+    };
+    Answer { status, length }
+}
+
+/// What a read returns, in the two parts in which it lies.
+type Data<'a> = [&'a [u8]; 2];
+
+/// The data of a write's reply, or of a refusal's.
+const NOTHING: Data = [&[], &[]];
+
+/// What was lent, of the right lengths.
+struct State<'a> {
+    block: &'a mut [u8; block::BYTES],
+    staged: &'a mut [Point; POINTS],
+    live: &'a mut [Point; POINTS],
+    gains: &'a mut [[Word; GAINS]; 3],
+}
+
+impl<'a> State<'a> {
+    /// Refusal 1 for a wrong length, counted in bytes.
+    fn of(lent: Lent<'a>) -> Result<Self, Refusal> {
+        Ok(State {
+            block: lent.block.try_into().map_err(|_| Refusal::Lent)?,
+            staged: exactly(whole(lent.staged)?)?,
+            live: exactly(whole(lent.live)?)?,
+            gains: exactly(whole(whole(lent.gains)?)?)?,
+        })
+    }
+
+    /// Refusal 1: lengths, then every setting. Table contents aren't judged.
+    fn judged(lent: Lent<'a>, reply: &[u8]) -> Result<Self, Refusal> {
+        let state = State::of(lent)?;
+        if reply.len() < LONGEST || block::judge(state.block).is_err() {
+            return Err(Refusal::Lent);
+        }
+        Ok(state)
+    }
+
+    /// A command's effect, and the data that it returns.
+    fn perform(&mut self, command: &Command) -> Result<Data<'_>, Refusal> {
+        match command {
+            Command::Write(write) => self.write(write).map(|()| NOTHING),
+            Command::Read(read) => self.read(read),
+        }
+    }
+
+    /// A write is taken whole, or (refusal 12) not at all.
+    fn write(&mut self, write: &Write) -> Result<(), Refusal> {
+        let block = &mut *self.block;
+        match *write {
+            Write::Display(display) => block[block::DISPLAY] = display,
+            Write::LowLatency(flag) => block[block::LOW_LATENCY] = flag.into(),
+            Write::Look(look) => block[block::LOOK].copy_from_slice(&look.to_le_bytes()),
+            Write::CurtainColour(colour) => block[block::CURTAIN_COLOUR] = colour,
+            Write::SplashImage(image) => block[block::SPLASH_IMAGE] = image,
+            Write::Flip(flip) => block[block::FLIP] = flip,
+            Write::Freeze(flag) => block[block::FREEZE] = flag.into(),
+            Write::Gains { target, start, words } => {
+                let place = place(start, words.len(), GAINS)?;
+                for colour in Colour::ALL {
+                    if target == Target::All || target == Target::One(colour) {
+                        self.gains[third(colour)][place.clone()].copy_from_slice(words);
+                    }
+                }
+            }
+            Write::Map { start, points } => {
+                let place = place(start, points.len(), self.staged_points())?;
+                self.staged[place].copy_from_slice(points);
+            }
+            Write::ControlPoints(written) => write_shape(&mut block[block::STAGED], &written),
+            Write::Apply(true) => {
+                block[block::ENABLE] = 1;
+                block.copy_within(block::STAGED, block::LIVE.start);
+                self.live.copy_from_slice(self.staged);
+            }
+            Write::Apply(false) => block[block::ENABLE] = 0,
+            Write::SmoothTable { columns, rows, points } => {
+                // Stored points past these stay.
+                let smooth = &mut block[block::SMOOTH];
+                smooth[..2].copy_from_slice(&[columns, rows]);
+                smooth[2..][..4 * points.len()].copy_from_slice(points.as_flattened());
+            }
+            Write::UpdateMode => block[block::UPDATE_MODE] = 0,
+            Write::Pin { pin, config } => block[block::pin(pin)].copy_from_slice(&config.bytes()),
+            Write::PinLevel { pin, level } => block[block::pin(pin)][1] = level.into(),
+            Write::Pwm { port, config } => block[block::pwm(pwm(port))].copy_from_slice(&config.bytes()),
+            Write::EepromLock(flag) => block[block::EEPROM_LOCK] = flag.into(),
+            Write::Uart { port, config } => block[block::uart(port)].copy_from_slice(&config.bytes()),
+        }
+        Ok(())
+    }
+
+    fn read(&self, read: &Read) -> Result<Data<'_>, Refusal> {
+        let block = &*self.block;
+        let byte = |place: usize| &block[place..place + 1];
+        let data = match *read {
+            Read::Display => byte(block::DISPLAY),
+            Read::LowLatency => byte(block::LOW_LATENCY),
+            Read::Look => &block[block::LOOK],
+            Read::CurtainColour => byte(block::CURTAIN_COLOUR),
+            Read::SplashImage => byte(block::SPLASH_IMAGE),
+            Read::Flip => byte(block::FLIP),
+            Read::Freeze => byte(block::FREEZE),
+            Read::Gains { colour, start, count } => {
+                self.gains[third(colour)][place(start, count.into(), GAINS)?].as_flattened()
+            }
+            Read::Map { start, count } => {
+                self.staged[place(start, count.into(), self.staged_points())?].as_flattened()
+            }
+            Read::ControlPoints => return Ok(written_shape(&block[block::STAGED])),
+            Read::Apply => byte(block::ENABLE),
+            Read::SmoothTable => {
+                let smooth = &block[block::SMOOTH];
+                &smooth[..2 + 4 * usize::from(smooth[0]) * usize::from(smooth[1])]
+            }
+            Read::UpdateMode => byte(block::UPDATE_MODE),
+            Read::Pin(pin) => &block[block::pin(pin)],
+            Read::PinLevel(pin) => &block[block::pin(pin)][1..2],
+            Read::Pwm(port) => &block[block::pwm(pwm(port))],
+            Read::EepromLock => byte(block::EEPROM_LOCK),
+            Read::Uart(port) => &block[block::uart(port)],
+        };
+        Ok([data, &[]])
+    }
+
+    /// Columns × rows as staged, which start + count of 34h may not pass.
+    fn staged_points(&self) -> usize {
+        let mut fields = Fields::new(&self.block[block::STAGED][1..block::SHAPE_HEAD]);
+        usize::from(fields.word()) * usize::from(fields.word())
+    }
+}
+
+/// A 35h write into mode, columns, rows and lists. Mode 0 keeps the two lists stored.
+fn write_shape(stored: &mut [u8], written: &ControlPoints) {
+    let (head, stored_lists) = stored.split_at_mut(block::SHAPE_HEAD);
+    let (mode, columns, rows) = match *written {
+        ControlPoints::Even { columns, rows } => (0, columns, rows),
+        ControlPoints::Listed(lists) => {
+            stored_lists.copy_from_slice(lists.as_flattened());
+            (1, COLUMNS as u16, ROWS as u16)
+        }
+    };
+    head[0] = mode;
+    head[1..3].copy_from_slice(&columns.to_le_bytes());
+    head[3..5].copy_from_slice(&rows.to_le_bytes());
+}
+
+/// What a 35h read returns of mode, columns, rows and lists: the written form.
+fn written_shape(stored: &[u8]) -> Data<'_> {
+    let (head, lists) = stored.split_at(block::SHAPE_HEAD);
+    match head[0] {
+        0 => [head, &[]],
+        _ => [&head[..1], lists],
+    }
+}
+
+/// Where `count` entries from `start` on lie; refusal 12 if they run past the `limit`.
+fn place(start: u16, count: usize, limit: usize) -> Result<Range<usize>, Refusal> {
+    let start = usize::from(start);
+    let end = start + count;
+    if end <= limit {
+        Ok(start..end)
+    } else {
+        Err(Refusal::PastTable)
+    }
+}
+
+/// The place of a colour's gains among the three.
+fn third(colour: Colour) -> usize {
+    colour as usize - 1
+}
+
+/// The place of a PWM port among those carried.
+fn pwm(port: u8) -> usize {
+    PWM_PORTS.iter().position(|carried| *carried == port).expect("the port was judged in reading")
+}
+
+/// A table's parts of `W` numbers; refusal 1 if some are left over.
+fn whole<T, const W: usize>(table: &mut [T]) -> Result<&mut [[T; W]], Refusal> {
+    match table.as_chunks_mut() {
+        (parts, []) => Ok(parts),
+        _ => Err(Refusal::Lent),
+    }
+}
+
+/// A table of `N`; refusal 1 if it has more or fewer.
+fn exactly<T, const N: usize>(table: &mut [T]) -> Result<&mut [T; N], Refusal> {
+    table.try_into().map_err(|_| Refusal::Lent)
+}
+
+/// Memory for one controller, of the right lengths.
+#[derive(Clone, Debug, PartialEq, Eq)]
+pub struct Memory {
+    pub block: [u8; block::BYTES],
+    pub staged: Vec<u8>,
+    pub live: Vec<u8>,
+    pub gains: Vec<u8>,
+}
+
+impl Memory {
+    pub fn lend(&mut self) -> Lent<'_> {
+        Lent {
+            block: &mut self.block,
+            staged: &mut self.staged,
+            live: &mut self.live,
+            gains: &mut self.gains,
+        }
+    }
+}
+
+impl Default for Memory {
+    /// After reset.
+    fn default() -> Self {
+        let mut memory = Memory {
+            block: [0; block::BYTES],
+            staged: vec![0; MAP_BYTES],
+            live: vec![0; MAP_BYTES],
+            gains: vec![0; GAINS_BYTES],
+        };
+        reset(memory.lend()).expect("the lengths are right");
+        memory
+    }
+}
