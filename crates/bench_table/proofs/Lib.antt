@@ -1,2 +1,3 @@
 -- The one statement about the table of bench packets.
 pub mod Holds
+pub mod Entry

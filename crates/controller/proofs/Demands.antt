@@ -24,8 +24,9 @@ use Rattle.packet.proofs.Exactly.{exactly}
 use Rattle.settings.specs.Ranges.{settingsRight}
 use Rattle.controller.specs.State.{State, stopped, lengthsRight}
 use Rattle.controller.specs.Commands.{runsPast}
-use Rattle.controller.specs.Step.{reads, stepRefusals, numberOf, replyTo, step}
-use Rattle.controller.specs.Demands.{Demand1, Lent, Placed, Accepted}
+use Rattle.controller.specs.Step.{reads, readAndPlaced, decision, stepRefusals, numberOf, replyTo, step}
+use Rattle.controller.specs.Demands.{Demand1, Demand2, Lent, Placed, Accepted}
+use Rattle.controller.proofs.Steps.{decision-number, step-read, step-written}
 
 pub demand1 : (p : List ℕ) (s : State) (reply : List ℕ) → Demand1 p s reply
 unfolding step numberOf over
@@ -143,10 +144,10 @@ fits p block h =
           ])
     ]
 
--- Demand 2: a packet is accepted exactly if what is lent is right, its frame is sound, its data is allowed and its start and count fit.
-pub demand2 : (p : List ℕ) → ((k : ℕ) → getD p k 0 < 256) → (s : State) (reply : List ℕ) → (step p s reply .status ≡ 0) ↔ Accepted p s reply
+-- A packet is accepted exactly if what is lent is right, its frame is sound, its data is allowed and its start and count fit.
+accepted-exactly : (p : List ℕ) → ((k : ℕ) → getD p k 0 < 256) → (s : State) (reply : List ℕ) → (step p s reply .status ≡ 0) ↔ Accepted p s reply
 unfolding step numberOf
-demand2 p bytes s reply = (to, from)
+accepted-exactly p bytes s reply = (to, from)
   where
     tests : List (ℕ × Bool)
     tests = (12, runsPast (opcodeOf p) (reads p) (dataOf p) (s .block)) ∷ []
@@ -168,3 +169,24 @@ demand2 p bytes s reply = (to, from)
               (first-silent (refusals p) (refusals-numbered p) (sym (reading-number p) ∙ exactly p bytes .1 (a .taken)))
               (fits p (s .block) (a .placed), tt),
         )
+
+-- An accepted packet's decision is 0.
+pub decided : (p : List ℕ) (s : State) (reply : List ℕ) → step p s reply .status ≡ 0
+    → (stopped s reply ≡ false) × (decision p (s .block) .number ≡ 0)
+unfolding step numberOf
+decided p s reply e =
+    let q = first-silent (stepRefusals p s reply) (numbered p s reply) e in
+    (q .0, decision-number p (s .block) ∙ silent-first (readAndPlaced p (s .block)) (q .1))
+
+-- Demand 2: accepted exactly if the rules allow it, and then state and reply are those of the command.
+pub demand2 : (p : List ℕ) → ((k : ℕ) → getD p k 0 < 256) → (s : State) (reply : List ℕ) → Demand2 p s reply
+demand2 p bytes s reply =
+    record {
+      exactly = accepted-exactly p bytes s reply;
+      writes = λ a w.
+          let d = decided p s reply (accepted-exactly p bytes s reply .1 a) in
+          step-written p s reply (d .0) (d .1) (ne-eqb (isRead (headerOf p)) 1 (omega arith));
+      reads-back = λ a r.
+          let d = decided p s reply (accepted-exactly p bytes s reply .1 a) in
+          step-read p s reply (d .0) (d .1) (eq-eqb (isRead (headerOf p)) 1 r);
+    }

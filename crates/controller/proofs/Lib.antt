@@ -12,3 +12,4 @@ pub mod ReadBack
 pub mod Kept
 pub mod Live
 pub mod InRange
+pub mod Applied

@@ -1,23 +1,26 @@
 -- Demands 1 and 2 of one packet on a state, said apart from the list of refusals.
 use Prim.Native.Nat.{ℕ, _+_, _≤_}
 use mathlib.Core.Path.{_≡_}
+use mathlib.Core.Logic.{_↔_}
 use mathlib.Core.Bool.{true}
 use mathlib.Core.List.{List, [], _∷_}
 use lib.ListN.{length, take, drop}
 use lib.Dec.{eqb}
 use Rattle.wire.specs.Numbers.{byteAt, wordAt}
 use Rattle.wire.specs.First.{first}
+use Rattle.wire.specs.Buffers.{over}
 use Rattle.opcode.specs.Options.{isRead, hasSum}
 use Rattle.packet.specs.Frame.{headerOf, opcodeOf, dataOf}
 use Rattle.packet.specs.Sound.{Taken}
 use Rattle.packet.specs.Points.{startOf, countOf}
+use Rattle.reply.specs.Reply.{replyBytes}
 use Rattle.reply.specs.Reading.{replyReading}
-use Rattle.settings.specs.Layout.{blockSize, shapeSize, liveShape}
+use Rattle.settings.specs.Layout.{blockSize, shapeSize, stagedShape, liveShape}
 use Rattle.settings.specs.Ranges.{settingsRight}
 use Rattle.settings.specs.Reset.{mapSize, gainsSize}
 use Rattle.controller.specs.State.{State}
-use Rattle.controller.specs.Commands.{third, points}
-use Rattle.controller.specs.Step.{stepRefusals, replyData, replyTo, step}
+use Rattle.controller.specs.Commands.{third, points, written, dataBack}
+use Rattle.controller.specs.Step.{stepRefusals, emptyReply, replyData, replyTo, out, step}
 
 -- "A refused packet changes no setting and no table point; its number is the first that applies in document 01's list; the reply buffer
 -- changes only where the reply is written."
@@ -68,7 +71,7 @@ unfoldable pub stateAfterAll : List Sent → State → State
 stateAfterAll [] s = s
 stateAfterAll (x ∷ xs) s = stateAfterAll xs (step (x .packet) s (x .reply) .state)
 
--- A packet that is no accepted 36h write of 1.
+-- A packet that is an accepted 36h write of 1.
 abbrev pub Applies : List ℕ → State → List ℕ → Type 0
 Applies p s reply = (step p s reply .status ≡ 0) × (opcodeOf p ≡ 0x36) × (isRead (headerOf p) ≡ 0) × (byteAt (dataOf p) 0 ≡ 1)
 
@@ -82,3 +85,19 @@ pub data NoneApplies : List Sent → State → Type 0 where
 pub record LiveKept (s t : State) : Type 0 where
   pub points-kept : s .live ≡ t .live
   pub settings-kept : take shapeSize (drop liveShape (s .block)) ≡ take shapeSize (drop liveShape (t .block))
+
+-- "A packet is accepted exactly when document 01 and the guides' tables allow it, and settings, tables and reply are then exactly what they
+-- say."
+pub record Demand2 (p : List ℕ) (s : State) (reply : List ℕ) : Type 0 where
+  pub exactly : (step p s reply .status ≡ 0) ↔ Accepted p s reply
+  pub writes : Accepted p s reply → isRead (headerOf p) ≡ 0
+      → step p s reply ≡ out 0 (length (emptyReply 0 p)) (written (opcodeOf p) (dataOf p) s) (over (emptyReply 0 p) reply)
+  pub reads-back : Accepted p s reply → isRead (headerOf p) ≡ 1
+      → step p s reply
+      ≡ out 0 (length (replyBytes (eqb (hasSum (headerOf p)) 1) 0 (dataBack (opcodeOf p) (dataOf p) s))) s
+      (over (replyBytes (eqb (hasSum (headerOf p)) 1) 0 (dataBack (opcodeOf p) (dataOf p) s)) reply)
+
+-- After an accepted apply the live side is the staged side of that moment.
+pub record Applied (s t : State) : Type 0 where
+  pub points-live : t .live ≡ s .staged
+  pub settings-live : take shapeSize (drop liveShape (t .block)) ≡ take shapeSize (drop stagedShape (s .block))

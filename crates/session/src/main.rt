@@ -64,6 +64,16 @@ fn main() {
         &mut gains,
         &mut reply,
     );
+    spoil(&mut block);
+    io::write_all(1, b"a setting out of range\n");
+    run(
+        b"\x03\x00\x04\x11\x01\x03\x00\x44\x11\x01\x02\x00\x84\x11\x00\x00",
+        &mut block,
+        &mut staged,
+        &mut live,
+        &mut gains,
+        &mut reply,
+    );
 }
 
 fn run(
@@ -114,6 +124,13 @@ fn lend_large(gains: &mut [u16]) {
     if 6 < gains.len() {
         gains[5] = 9000;
         gains[6] = 65535;
+    }
+}
+
+// Display 5, which no packet can have stored: refusal 1, with no reply.
+fn spoil(block: &mut [u8]) {
+    if 0 < block.len() {
+        block[0] = 5;
     }
 }
 
