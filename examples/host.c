@@ -1,4 +1,5 @@
-/* A host that talks to a controller: it makes packets, sends them, and reads the replies.
+/* A host that talks to a controller: it makes packets, sends them, and reads the replies. It plans the upload of a
+ * changed warp map, and sends no more than that takes.
  *
  * Each packet (>) and each reply (<) is printed in hex. In the field a bus lies between host and controller; here
  * exchange() hands the packet straight to the front end.
@@ -8,6 +9,7 @@
 #include <inttypes.h>
 #include <stdio.h>
 #include <stdlib.h>
+#include <string.h>
 
 /* Everything that the front end knows of one controller. The host keeps it and lends it with each call. */
 static struct {
@@ -16,6 +18,15 @@ static struct {
     uint8_t live[VERMOLGAS_MAP_BYTES];
     uint8_t gains[VERMOLGAS_GAINS_BYTES];
 } controller;
+
+/* An upload: the map that the controller holds, the one that it is to hold, and what planning writes. */
+static struct {
+    uint8_t held[VERMOLGAS_MAP_BYTES];
+    uint8_t wanted[VERMOLGAS_MAP_BYTES];
+    uint8_t plan[VERMOLGAS_PLAN_LIST_BYTES];
+    uint8_t room[VERMOLGAS_ROOM_BYTES];
+    uint8_t batch[VERMOLGAS_BATCH_BYTES];
+} upload;
 
 /* Writes carry a length, and ask for a reply; both ways a checksum goes along. */
 #define WRITE (VERMOLGAS_OPTION_LENGTH | VERMOLGAS_OPTION_CHECKSUM | VERMOLGAS_OPTION_REPLY)
@@ -58,7 +69,7 @@ static void print_hex(char direction, const uint8_t *bytes, size_t length)
     printf("\n");
 }
 
-/* Sends a packet, and prints it and its reply. The reply has a checksum, as every packet here asks for one. */
+/* Sends a packet, and prints it and its reply. Every packet here that asks for a reply asks for a checksum, too. */
 static void exchange(const uint8_t *packet, size_t length)
 {
     uint8_t reply[VERMOLGAS_REPLY_BYTES];
@@ -113,6 +124,44 @@ static void print_point(const char *words, const uint8_t *map, size_t index)
     printf("  %s point %zu is at %.1f, %.1f\n", words, index, x, y);
 }
 
+/* Moves a point of the map that is wanted, to a place in pixels. */
+static void move_point(size_t index, unsigned x, unsigned y)
+{
+    memcpy(upload.wanted + VERMOLGAS_POINT_BYTES * index, (const uint8_t[]){POINT(x, y)}, VERMOLGAS_POINT_BYTES);
+}
+
+/* Plans the upload of a full map, and sends the packets of the batch one by one. */
+static int send_map(void)
+{
+    uint64_t answer = vermolgas_plan(VERMOLGAS_MOST_POINTS, upload.held, sizeof upload.held, upload.wanted,
+                                     sizeof upload.wanted, upload.plan, sizeof upload.plan, upload.room,
+                                     sizeof upload.room, upload.batch, sizeof upload.batch);
+    if (VERMOLGAS_STATUS(answer) != VERMOLGAS_ACCEPTED) {
+        fprintf(stderr, "planning is refused with %u\n", VERMOLGAS_STATUS(answer));
+        return EXIT_FAILURE;
+    }
+    size_t packets = VERMOLGAS_PLAN_PACKETS(answer), bytes = VERMOLGAS_PLAN_BYTES(answer);
+    printf("  planned: %zu packets, %zu bytes\n\n", packets, bytes);
+
+    const uint8_t *packet = upload.batch;
+    for (size_t i = 0; i < packets; i++) {
+        const uint8_t *entry = upload.plan + 4 * i;
+        size_t start = entry[0] | (size_t)entry[1] << 8, count = entry[2] | (size_t)entry[3] << 8;
+        size_t length = 6 + VERMOLGAS_POINT_BYTES * count;
+        printf("34h: %zu of the points, from %zu on\n", count, start);
+        exchange(packet, length);
+        packet += length;
+    }
+    if (memcmp(controller.staged, upload.wanted, sizeof upload.wanted) != 0) {
+        fprintf(stderr, "the staged map isn't the one wanted\n");
+        return EXIT_FAILURE;
+    }
+    /* A full map fills the batch. */
+    printf("  the staged map is the one wanted: %zu bytes sent, %zu saved against the whole map's %d\n\n", bytes,
+           VERMOLGAS_BATCH_BYTES - bytes, VERMOLGAS_BATCH_BYTES);
+    return EXIT_SUCCESS;
+}
+
 int main(void)
 {
     uint64_t reset = vermolgas_reset(controller.block, sizeof controller.block, controller.staged,
@@ -149,6 +198,20 @@ int main(void)
     print_point("staged", controller.staged, 5);
     print_point("live", controller.live, 5);
     printf("\n");
+
+    command("35h: control points in 62 columns and 32 rows", 0x35, WRITE, DATA(0, U16(62), U16(32)));
+    printf("Upload: points 100, 102, 110 and 1983 are to move\n");
+    memcpy(upload.held, controller.staged, sizeof upload.held);
+    memcpy(upload.wanted, upload.held, sizeof upload.wanted);
+    move_point(100, 1171, 35);
+    move_point(102, 1233, 36);
+    move_point(110, 1482, 33);
+    move_point(1983, 1912, 1071);
+    if (send_map() != EXIT_SUCCESS)
+        return EXIT_FAILURE;
+    command("34h: read points 100 to 102 back", 0x34, READ, DATA(U16(100), U16(3)));
+    command("34h: read point 1983 back", 0x34, READ, DATA(U16(1983), U16(1)));
+    command("35h: control points in 3 columns and 2 rows again", 0x35, WRITE, DATA(0, U16(3), U16(2)));
 
     /* Gains are in units of 1/4096. */
     command("2Bh: two red gains of 1.25, from 100 on", 0x2B, WRITE, DATA(0, 1, U16(2), U16(100), U16(5120), U16(5120)));

@@ -1,4 +1,4 @@
-/* Vermolgas: the projector front end and its packets, for C and C++.
+/* Vermolgas: the projector front end, its packets and the planning of uploads, for C and C++.
  *
  * Link with libvermolgas.a (x86-64).
  *
@@ -10,12 +10,9 @@
  *
  * No entry keeps anything between calls: all state is in the buffers lent to it.
  *
- * Every answer is one number. Its low byte is 0 if the call was accepted, else the number of the refusal: take it out
- * with VERMOLGAS_STATUS, for the other bits of a refusal are reserved. After a refusal every buffer is unchanged;
- * vermolgas_packet alone still writes its reply, and answers its length. The macros below take an answer apart; each
- * uses its argument once.
- *
- * docs/INTERFACE.md has the commands and what each may carry, docs/LAYOUT.md the settings block.
+ * Every answer is one number. Its low byte is 0 if the call was accepted, else the number of the refusal. After a
+ * refusal its other fields are 0 and every buffer is unchanged; vermolgas_packet alone still replies. The macros below
+ * take an answer apart; each uses its argument once.
  */
 #ifndef VERMOLGAS_H
 #define VERMOLGAS_H
@@ -38,7 +35,7 @@ enum vermolgas_refusal {
     VERMOLGAS_REFUSED_DESTINATION = 6,    /* the destination isn't 4 */
     VERMOLGAS_REFUSED_OPCODE = 7,         /* the opcode isn't carried */
     VERMOLGAS_REFUSED_LENGTH_MISSING = 8, /* a write of 2Bh, 34h, 35h or 38h has no length field */
-    VERMOLGAS_REFUSED_SIZE = 9,           /* the data size is wrong, or a gain count differs from its words */
+    VERMOLGAS_REFUSED_SIZE = 9,           /* the data size is wrong for the command */
     VERMOLGAS_REFUSED_RANGE = 10,         /* a value is out of range or reserved */
     VERMOLGAS_REFUSED_NOT_CARRIED = 11,   /* merge mode, compressed gains */
     VERMOLGAS_REFUSED_PAST_TABLE = 12     /* a start and count run past their table */
@@ -52,6 +49,13 @@ enum vermolgas_refusal {
 #define VERMOLGAS_MAP_BYTES   7936  /* a warp map, staged or live: 1,984 points, each 16 bits x and then y */
 #define VERMOLGAS_GAINS_BYTES 12096 /* 2,016 gains of 16 bits for red, then for green, then for blue */
 #define VERMOLGAS_REPLY_BYTES 512   /* room for every reply; a longer buffer is taken, too */
+
+/* What upload planning is lent, in bytes. */
+#define VERMOLGAS_POINT_BYTES     4    /* one point of a map, held or wanted: 16 bits x and then y */
+#define VERMOLGAS_MOST_POINTS     1984 /* a full map */
+#define VERMOLGAS_PLAN_LIST_BYTES 7936 /* 1,984 times a packet's start and then its count, 16 bits each */
+#define VERMOLGAS_ROOM_BYTES      7940 /* working room: 1,985 numbers of 32 bits */
+#define VERMOLGAS_BATCH_BYTES     8032 /* room for every batch; a longer buffer is taken, too */
 
 /* Header bits, in place: what VERMOLGAS_READ_OPTIONS gives and vermolgas_make takes. */
 #define VERMOLGAS_OPTION_TWO_BYTE_OPCODE 0x08
@@ -127,6 +131,32 @@ uint64_t vermolgas_read_reply(const uint8_t *reply, size_t reply_length, uint8_t
 #define VERMOLGAS_REPLY_OFFSET         3
 #define VERMOLGAS_REPLY_STATUS(answer) ((unsigned)((uint64_t)(answer) >> 8 & 0xFF))
 #define VERMOLGAS_REPLY_LENGTH(answer) ((size_t)((uint64_t)(answer) >> 16 & 0xFFFF))
+
+/* Plans the upload of a map: the 34h writes that turn the points held into those wanted, in the fewest bytes. No list
+ * of packets that does so, whatever its packets are, has fewer bytes than the answer gives.
+ *
+ * points is the number of points N, 1 to VERMOLGAS_MOST_POINTS, else refusal 10; it need not be that of a shape. Then
+ * refusal 1 for a wrong length: held and wanted have VERMOLGAS_POINT_BYTES for each point, plan and room have
+ * VERMOLGAS_PLAN_LIST_BYTES and VERMOLGAS_ROOM_BYTES, all exactly, and batch has VERMOLGAS_BATCH_BYTES or more. On a
+ * refusal no byte is changed. held and wanted may be the same bytes.
+ *
+ * The plan is a list of packets, each by its start and its count of points, 1 to 126. Starts rise, and no two packets
+ * overlap. Of all such lists of the fewest bytes it is the one whose first count is smallest, then the second, and so
+ * on. Equal maps need no packet.
+ *
+ * The batch is the packets back to back, each of 6 + 4 x count bytes: header 14h, opcode 34h, length, start and the
+ * points as wanted. A controller that holds the points held, and whose shape has N points, accepts each of them and
+ * then holds those wanted. Together they have at most 4 x N + 6 x (N / 126 rounded up) bytes.
+ *
+ * The room has at each index below N the fewest bytes for the points from there on, and 0 from N on. Plan and batch
+ * are unchanged past the packets that the answer counts.
+ */
+uint64_t vermolgas_plan(uint32_t points, const uint8_t *held, size_t held_length, const uint8_t *wanted,
+                        size_t wanted_length, uint8_t *plan, size_t plan_length, uint8_t *room, size_t room_length,
+                        uint8_t *batch, size_t batch_length);
+
+#define VERMOLGAS_PLAN_PACKETS(answer) ((size_t)((uint64_t)(answer) >> 8 & 0xFFFFFF))
+#define VERMOLGAS_PLAN_BYTES(answer)   ((size_t)((uint64_t)(answer) >> 32))
 
 #ifdef __cplusplus
 }

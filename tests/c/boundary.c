@@ -1,6 +1,6 @@
 /* Every entry on buffers that were allocated with the exact length that is lent: short, odd, empty and right ones.
  *
- * Run under AddressSanitizer and valgrind, which see each byte read or written outside of them.
+ * Run under valgrind, which sees each byte read or written outside of them, and with the C side under AddressSanitizer (the library is not instrumented).
  */
 #include "vermolgas.h"
 
@@ -378,12 +378,119 @@ static void read_replies(void)
     }
 }
 
+/* What is lent to plan, in the order of the arguments. */
+enum { HELD, WANTED, PLAN, ROOM, BATCH, LENT };
+
+static uint64_t plan(uint32_t points, struct buffer *lent)
+{
+    return vermolgas_plan(points, lent[HELD].bytes, lent[HELD].length, lent[WANTED].bytes, lent[WANTED].length,
+                          lent[PLAN].bytes, lent[PLAN].length, lent[ROOM].bytes, lent[ROOM].length, lent[BATCH].bytes,
+                          lent[BATCH].length);
+}
+
+/* Maps of so many points, and the rest of the right lengths. With step 0 all points differ, else all but each
+ * step-th. */
+static void start_plan(struct buffer *lent, size_t points, size_t step)
+{
+    size_t lengths[LENT] = {VERMOLGAS_POINT_BYTES * points, VERMOLGAS_POINT_BYTES * points, VERMOLGAS_PLAN_LIST_BYTES,
+                            VERMOLGAS_ROOM_BYTES, VERMOLGAS_BATCH_BYTES};
+    for (int part = 0; part < LENT; part++)
+        lent[part] = pattern(lengths[part]);
+    for (size_t point = 0; point < points; point++) {
+        if (step == 0 || point % step != 0) {
+            size_t place = VERMOLGAS_POINT_BYTES * point + point % VERMOLGAS_POINT_BYTES;
+            lent[WANTED].bytes[place] ^= 0x10;
+            lent[WANTED].before[place] ^= 0x10;
+        }
+    }
+}
+
+static void end_plan(struct buffer *lent)
+{
+    for (int part = 0; part < LENT; part++)
+        give_back(&lent[part]);
+}
+
+static void refuse_plan(uint32_t points, struct buffer *lent, uint64_t due)
+{
+    CHECK(plan(points, lent) == due);
+    for (int part = 0; part < LENT; part++)
+        CHECK(unchanged(&lent[part]));
+}
+
+/* Plans, and each packet of the batch on a copy of the map, read from a buffer of its length. */
+static void plan_uploads(void)
+{
+    static const size_t numbers[] = {1, 2, 3, 125, 126, 127, 253, 1009, 1983, VERMOLGAS_MOST_POINTS};
+    for (size_t i = 0; i < sizeof numbers / sizeof *numbers; i++) {
+        for (size_t step = 0; step <= 5; step++) {
+            struct buffer lent[LENT];
+            start_plan(lent, numbers[i], step);
+            uint64_t answer = plan((uint32_t)numbers[i], lent);
+            size_t packets = VERMOLGAS_PLAN_PACKETS(answer), place = 0;
+            CHECK(VERMOLGAS_STATUS(answer) == VERMOLGAS_ACCEPTED);
+            CHECK(unchanged(&lent[HELD]) && unchanged(&lent[WANTED]));
+            CHECK(unchanged_from(&lent[PLAN], 4 * packets));
+            CHECK(unchanged_from(&lent[BATCH], VERMOLGAS_PLAN_BYTES(answer)));
+            struct buffer map = lend(lent[HELD].bytes, lent[HELD].length);
+            for (size_t packet = 0; packet < packets; packet++) {
+                const uint8_t *listed = lent[PLAN].bytes + 4 * packet;
+                size_t first = listed[0] | (size_t)listed[1] << 8, count = listed[2] | (size_t)listed[3] << 8;
+                struct buffer sent = lend(lent[BATCH].bytes + place, 6 + VERMOLGAS_POINT_BYTES * count);
+                uint64_t read = vermolgas_read(sent.bytes, sent.length);
+                CHECK(VERMOLGAS_STATUS(read) == VERMOLGAS_ACCEPTED && VERMOLGAS_READ_OPCODE(read) == 0x34);
+                CHECK(VERMOLGAS_READ_LENGTH(read) == 2 + VERMOLGAS_POINT_BYTES * count);
+                if (first + count <= numbers[i])
+                    memcpy(map.bytes + VERMOLGAS_POINT_BYTES * first, sent.bytes + 6, VERMOLGAS_POINT_BYTES * count);
+                place += sent.length;
+                give_back(&sent);
+            }
+            CHECK(place == VERMOLGAS_PLAN_BYTES(answer));
+            CHECK(memcmp(map.bytes, lent[WANTED].bytes, map.length) == 0);
+            give_back(&map);
+            end_plan(lent);
+        }
+    }
+}
+
+/* One of the lengths wrong, or the number of points. */
+static void refuse_plans(void)
+{
+    static const size_t numbers[] = {1, 3, 127, VERMOLGAS_MOST_POINTS};
+    static const uint32_t refused[] = {0, VERMOLGAS_MOST_POINTS + 1, 0x10001, 0x40000001, UINT32_MAX};
+    for (size_t i = 0; i < sizeof numbers / sizeof *numbers; i++) {
+        struct buffer lent[LENT];
+        start_plan(lent, numbers[i], 3);
+        for (size_t j = 0; j < sizeof refused / sizeof *refused; j++)
+            refuse_plan(refused[j], lent, VERMOLGAS_REFUSED_RANGE);
+        for (int part = 0; part < LENT; part++) {
+            struct buffer kept = lent[part];
+            size_t right = kept.length;
+            size_t lengths[] = {0, 1, 2, 3, right / 2, right - 2, right - 1, right + 1, right + 2, 2 * right};
+            for (size_t j = 0; j < sizeof lengths / sizeof *lengths; j++) {
+                if (part == BATCH && lengths[j] > right)
+                    continue;
+                lent[part] = pattern(lengths[j]);
+                refuse_plan((uint32_t)numbers[i], lent, VERMOLGAS_REFUSED_LENT);
+                refuse_plan(0, lent, VERMOLGAS_REFUSED_RANGE);
+                give_back(&lent[part]);
+            }
+            lent[part] = none;
+            refuse_plan((uint32_t)numbers[i], lent, VERMOLGAS_REFUSED_LENT);
+            refuse_plan(UINT32_MAX, lent, VERMOLGAS_REFUSED_RANGE);
+            lent[part] = kept;
+        }
+        end_plan(lent);
+    }
+}
+
 static const struct {
     const char *name;
     void (*run)(void);
 } groups[] = {
     {"right buffers", right_buffers}, {"wrong buffers", wrong_buffers}, {"cut packets", cut_packets},
-    {"making", make_packets},         {"replies", read_replies},
+    {"making", make_packets},         {"replies", read_replies},    {"plans", plan_uploads},
+    {"plans refused", refuse_plans},
 };
 
 int main(void)

@@ -187,6 +187,81 @@ static void read_replies(void)
     CHECK(vermolgas_read_reply(BYTES(0x0D, 0x00, 0x00), 0) == VERMOLGAS_REFUSED_RANGE);
 }
 
+/* Maps of full size, and what planning writes. */
+static struct {
+    uint8_t held[VERMOLGAS_MAP_BYTES], wanted[VERMOLGAS_MAP_BYTES];
+    uint8_t plan[VERMOLGAS_PLAN_LIST_BYTES], room[VERMOLGAS_ROOM_BYTES], batch[VERMOLGAS_BATCH_BYTES];
+} upload;
+
+static uint64_t plan(uint32_t points)
+{
+    size_t length = points <= VERMOLGAS_MOST_POINTS ? VERMOLGAS_POINT_BYTES * (size_t)points : 0;
+    memset(upload.plan, 0xAA, sizeof upload.plan);
+    memset(upload.room, 0xAA, sizeof upload.room);
+    memset(upload.batch, 0xAA, sizeof upload.batch);
+    return vermolgas_plan(points, upload.held, length, upload.wanted, length, upload.plan, sizeof upload.plan,
+                          upload.room, sizeof upload.room, upload.batch, sizeof upload.batch);
+}
+
+/* The room's number at an index. */
+static uint32_t room(size_t index)
+{
+    const uint8_t *bytes = upload.room + 4 * index;
+    return bytes[0] | (uint32_t)bytes[1] << 8 | (uint32_t)bytes[2] << 16 | (uint32_t)bytes[3] << 24;
+}
+
+static void plan_uploads(void)
+{
+    CHECK(VERMOLGAS_MOST_POINTS * VERMOLGAS_POINT_BYTES == VERMOLGAS_MAP_BYTES);
+    CHECK(plan(5) == VERMOLGAS_ACCEPTED);
+    CHECK(upload.plan[0] == 0xAA && upload.batch[0] == 0xAA && room(0) == 0 && room(1984) == 0);
+
+    /* Points 0 and 2 differ: one packet, 18 bytes. */
+    upload.wanted[0] = 1;
+    upload.wanted[4 * 2 + 3] = 2;
+    uint64_t answer = plan(5);
+    CHECK(VERMOLGAS_STATUS(answer) == VERMOLGAS_ACCEPTED);
+    CHECK(VERMOLGAS_PLAN_PACKETS(answer) == 1);
+    CHECK(VERMOLGAS_PLAN_BYTES(answer) == 18);
+    CHECK(memcmp(upload.plan, (const uint8_t[]){0, 0, 3, 0, 0xAA}, 5) == 0);
+    CHECK(memcmp(upload.batch, (const uint8_t[]){0x14, 0x34, 14, 0, 0, 0, 1, 0, 0, 0, 0, 0, 0, 0, 0, 0, 0, 2, 0xAA},
+                 19) == 0);
+    CHECK(room(0) == 18 && room(1) == 10 && room(2) == 10 && room(3) == 0 && room(5) == 0);
+
+    /* Points 0 and 3 differ: two packets, 20 bytes. */
+    upload.wanted[4 * 2 + 3] = 0;
+    upload.wanted[4 * 3] = 7;
+    answer = plan(4);
+    CHECK(VERMOLGAS_PLAN_PACKETS(answer) == 2);
+    CHECK(VERMOLGAS_PLAN_BYTES(answer) == 20);
+    CHECK(memcmp(upload.plan, (const uint8_t[]){0, 0, 1, 0, 3, 0, 1, 0, 0xAA}, 9) == 0);
+    CHECK(upload.batch[20] == 0xAA);
+
+    /* The staged map after reset is held; the front end takes the packets. */
+    CHECK(vermolgas_reset(LENT) == VERMOLGAS_ACCEPTED);
+    answer = plan(VERMOLGAS_MOST_POINTS);
+    CHECK(VERMOLGAS_PLAN_PACKETS(answer) == 2);
+    CHECK(send(upload.batch, 10) == replied(0));
+    CHECK(send(upload.batch + 10, 10) == replied(0));
+    CHECK(memcmp(lent.staged, upload.wanted, sizeof upload.wanted) == 0);
+
+    /* All points differ. */
+    memset(upload.wanted, 0x55, sizeof upload.wanted);
+    answer = plan(VERMOLGAS_MOST_POINTS);
+    CHECK(VERMOLGAS_PLAN_PACKETS(answer) == 16);
+    CHECK(VERMOLGAS_PLAN_BYTES(answer) == VERMOLGAS_BATCH_BYTES);
+    CHECK(memcmp(upload.plan, (const uint8_t[]){0, 0, 94, 0, 94, 0, 126, 0}, 8) == 0);
+
+    CHECK(plan(0) == VERMOLGAS_REFUSED_RANGE);
+    CHECK(plan(VERMOLGAS_MOST_POINTS + 1) == VERMOLGAS_REFUSED_RANGE);
+    CHECK(plan(UINT32_MAX) == VERMOLGAS_REFUSED_RANGE);
+    CHECK(upload.plan[0] == 0xAA && upload.room[0] == 0xAA && upload.batch[0] == 0xAA);
+    CHECK(vermolgas_plan(1, upload.held, 4, upload.wanted, 4, upload.plan, sizeof upload.plan, upload.room,
+                         sizeof upload.room, upload.batch, sizeof upload.batch - 1) == VERMOLGAS_REFUSED_LENT);
+    CHECK(vermolgas_plan(1, NULL, 0, NULL, 0, NULL, 0, NULL, 0, NULL, 0) == VERMOLGAS_REFUSED_LENT);
+    CHECK(vermolgas_plan(0, NULL, 0, NULL, 0, NULL, 0, NULL, 0, NULL, 0) == VERMOLGAS_REFUSED_RANGE);
+}
+
 int main(void)
 {
     reset_controllers();
@@ -196,6 +271,7 @@ int main(void)
     refuse_packets();
     make_packets();
     read_replies();
+    plan_uploads();
     printf("%u passed, %u failed\n", passed, failed);
     return failed == 0 ? 0 : 1;
 }

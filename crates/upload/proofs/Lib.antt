@@ -1,11 +1,17 @@
 -- Laws of upload planning: the least bytes; the lists that cover what differs; what packets do to maps; and the theorems: demand 3 about whole lists
--- of packets, and that the plan is the list that document 01 fixes.
+-- of packets, and that the plan is the list that document 01 fixes. Rooms, Walk, Site and Outcome speak of the code that plans: its loops, and what it
+-- promises.
 pub mod Best
 pub mod Least
+pub mod Rooms
 pub mod Covers
 pub mod Differs
 pub mod Reading
 pub mod Lists
 pub mod Choice
 pub mod Bytes
+pub mod Walk
+pub mod Outcome
+pub mod Site
 pub mod Examples
+pub mod Small

@@ -3,3 +3,4 @@ pub mod Cost
 pub mod Plan
 pub mod Judge
 pub mod Parts
+pub mod Planning

@@ -1,10 +1,13 @@
 -- "exported extern "C" entries .. return a status and length packed in a number". Every answer is 64 bits; docs/INTERFACE.md has the table.
-use Prim.Native.Nat.{ℕ, _+_, _*_}
+use Prim.Native.Nat.{ℕ, _+_, _*_, _/_, _%_}
+use mathlib.Core.Path.{_≡_}
 use mathlib.Core.List.{List}
 use Rattle.packet.specs.Reading.{Answer}
 use Rattle.packet.specs.Making.{Made}
 use Rattle.reply.specs.Reading.{ReplyAnswer}
 use Rattle.controller8.specs.Bytes.{Lent, LentOut}
+use Rattle.wire.specs.Tables.{words}
+use Rattle.upload.specs.Planning.{Sheets, PlanOut, plannedBytes, Fewest}
 
 -- The refusal in bits 0-7; opcode in 8-15, header bits 3-7 in place in 16-23, offset of the data in 24-31, data length from 32 on. An answer
 -- that is a refusal has 0 in all of these.
@@ -31,3 +34,13 @@ packedOut answer l reply = record { answer = answer; lent = l; reply = reply }
 
 abbrev pub packedStep : LentOut → PackedOut
 packedStep o = packedOut (o .status + 256 * o .size) (o .lent) (o .reply)
+
+-- Planning: the refusal in bits 0-7, the number of packets from 8 on, the batch's bytes from 32 on.
+abbrev pub packedPlan : PlanOut → ℕ
+packedPlan o = o .status + 256 * o .packets + 4294967296 * o .bytes
+
+-- The promise of planning for C: the answer and every lent list, and demand 3 of the byte count answered.
+pub record PackedPlan (n : ℕ) (held wanted : List ℕ) (before : Sheets) (answer : ℕ) (left : Sheets) : Type 0 where
+  pub packed : answer ≡ packedPlan (plannedBytes n held wanted before)
+  pub lists : left ≡ plannedBytes n held wanted before .left
+  pub fewest : answer % 256 ≡ 0 → Fewest n (words held) (words wanted) (answer / 4294967296) (left .batch)

@@ -8,7 +8,8 @@ ghost use Rattle.packet.specs.Reading.{answer, reading};
 ghost use Rattle.packet.specs.Making.{made};
 ghost use Rattle.reply.specs.Reading.{«answer» as replyAnswer, replyReading};
 ghost use Rattle.controller8.specs.Bytes.{lent, stepBytes, lentReset, resetBytes};
-ghost use Rattle.vermolgas.specs.Packed.{packedReading, packedMade, packedReply, packedOut, packedStep};
+ghost use Rattle.upload.specs.Planning.{sheets};
+ghost use Rattle.vermolgas.specs.Packed.{PackedPlan, packedReading, packedMade, packedReply, packedOut, packedStep};
 
 // Puts the block and all tables as they are after reset. The status is 0, or 1 for a wrong length.
 #[no_mangle]
@@ -104,4 +105,21 @@ fn reply_refusal(r: ReplyReading) -> u64
         ReplyReading::Refused(why) => why.number as u64,
         ReplyReading::Reply { status: _, size: _ } => 0,
     }
+}
+
+// Plans an upload: the packets, back to back in the batch, that turn held into wanted in the fewest bytes.
+#[no_mangle]
+pub extern "C" fn vermolgas_plan(
+    points: u32,
+    held: &[u8],
+    wanted: &[u8],
+    plan: &mut [u8],
+    room: &mut [u8],
+    batch: &mut [u8],
+) -> u64
+    ensures { λ r. ⌜ PackedPlan points (now (held .entry)) (now (wanted .entry)) (sheets (now (plan .entry)) (now (room .entry)) (now (batch .entry)))
+        r (sheets (now (plan .exit)) (now (room .exit)) (now (batch .exit))) ⌝ }
+{
+    let a = planner8::plan_bytes(points, held, wanted, plan, room, batch);
+    a.status as u64 + 256 * a.packets as u64 + 4294967296 * a.bytes as u64
 }

@@ -3,6 +3,7 @@
 use std::ptr;
 
 use twin::front_end::Lent;
+use twin::planner;
 
 extern "C" {
     pub fn vermolgas_reset(
@@ -39,6 +40,19 @@ extern "C" {
         buffer_length: usize,
     ) -> u64;
     pub fn vermolgas_read_reply(reply: *const u8, reply_length: usize, checksum_expected: u8) -> u64;
+    pub fn vermolgas_plan(
+        points: u32,
+        held: *const u8,
+        held_length: usize,
+        wanted: *const u8,
+        wanted_length: usize,
+        plan: *mut u8,
+        plan_length: usize,
+        room: *mut u8,
+        room_length: usize,
+        batch: *mut u8,
+        batch_length: usize,
+    ) -> u64;
 }
 
 /// The entries, and whether NULL stands for an empty slice, as the header allows.
@@ -98,5 +112,17 @@ impl Library {
 
     pub fn read_reply(self, reply: &[u8], checksum_expected: u8) -> u64 {
         unsafe { vermolgas_read_reply(self.pointer(reply), reply.len(), checksum_expected) }
+    }
+
+    #[rustfmt::skip]
+    pub fn plan(self, points: u32, lent: planner::Lent) -> u64 {
+        let [held, wanted] = [lent.held, lent.wanted].map(|slice| (self.pointer(slice), slice.len()));
+        let slices = [lent.plan, lent.room, lent.batch];
+        let [plan, room, batch] = slices.map(|slice| (self.pointer_mut(slice), slice.len()));
+        unsafe {
+            vermolgas_plan(
+                points, held.0, held.1, wanted.0, wanted.1, plan.0, plan.1, room.0, room.1, batch.0, batch.1,
+            )
+        }
     }
 }

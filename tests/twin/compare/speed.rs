@@ -151,12 +151,17 @@ fn packet_of(header: u8, opcode: Opcode, data: &[u8]) -> Vec<u8> {
 mod stack {
     use std::arch::asm;
 
-    use twin::front_end::Memory;
+    use twin::front_end::{Memory, MAP_BYTES};
     use twin::packet::LONGEST;
+    use twin::planner::{BATCH_BYTES, PLAN_BYTES, ROOM_BYTES};
+    use twin::settings::POINTS;
 
     use crate::library;
 
     const BYTES: usize = 64 * 1024;
+
+    /// For planning, which goes over a whole map.
+    const PLANNING_BYTES: usize = 1024 * 1024;
 
     /// More than any entry has.
     const ARGUMENTS: usize = 12;
@@ -171,8 +176,8 @@ mod stack {
     }
 
     impl Painted {
-        fn new() -> Self {
-            Painted { stack: vec![0; BYTES], most: 0 }
+        fn new(bytes: usize) -> Self {
+            Painted { stack: vec![0; bytes], most: 0 }
         }
 
         /// Calls an entry, with each of two paints, so that a byte written in the one shows in the
@@ -181,7 +186,7 @@ mod stack {
             for paint in [0xA5, 0x5A] {
                 self.stack.fill(paint);
                 let bottom = self.stack.as_mut_ptr() as usize;
-                let top = (bottom + BYTES) & !15;
+                let top = (bottom + self.stack.len()) & !15;
                 let mut all = [0; ARGUMENTS];
                 all[..arguments.len()].copy_from_slice(arguments);
                 // SAFETY: the callers pass what the entry asks for, and it doesn't look at more.
@@ -227,7 +232,7 @@ mod stack {
     /// The most that each entry needs over these packets.
     pub fn report(packets: &[Vec<u8>]) {
         let [mut reset, mut packet, mut read, mut make, mut read_reply] =
-            std::array::from_fn(|_| Painted::new());
+            std::array::from_fn(|_| Painted::new(BYTES));
         let mut memory = Memory::default();
         for bytes in packets {
             let mut bytes = bytes.clone();
@@ -254,6 +259,7 @@ mod stack {
         let lent = memory.lend();
         let tables = [lent.block, lent.staged, lent.live, lent.gains].map(slice);
         reset.call(library::vermolgas_reset as *const (), tables.as_flattened());
+        let plan = planning();
 
         println!("stack written by an entry, its return address included, in bytes");
         for (name, painted) in [
@@ -262,9 +268,27 @@ mod stack {
             ("vermolgas_read", read),
             ("vermolgas_make", make),
             ("vermolgas_read_reply", read_reply),
+            ("vermolgas_plan", plan),
         ] {
             println!("{name:<28}{:>10}", painted.most);
         }
+    }
+
+    /// Plans for full maps: none of the points differs, all do, every second, every third.
+    fn planning() -> Painted {
+        let mut plan = Painted::new(PLANNING_BYTES);
+        for step in [POINTS + 1, 1, 2, 3] {
+            let (mut held, mut wanted) = (vec![0; MAP_BYTES], vec![0; MAP_BYTES]);
+            for point in wanted.as_chunks_mut::<4>().0.iter_mut().skip(step - 1).step_by(step) {
+                *point = [1; 4];
+            }
+            let (mut list, mut room, mut batch) = ([0; PLAN_BYTES], [0; ROOM_BYTES], [0; BATCH_BYTES]);
+            let slices =
+                [slice(&mut held), slice(&mut wanted), slice(&mut list), slice(&mut room), slice(&mut batch)];
+            let arguments = [&[POINTS as u64][..], slices.as_flattened()].concat();
+            plan.call(library::vermolgas_plan as *const (), &arguments);
+        }
+        plan
     }
 }
 

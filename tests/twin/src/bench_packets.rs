@@ -4,6 +4,7 @@ use crate::block;
 use crate::command::{Colour, Command, Direction, Opcode, Read, Target, Write};
 use crate::front_end::{self, Lent, Memory};
 use crate::packet::{self, assemble, Header};
+use crate::planner::{self, Planned};
 use crate::refusal::Refusal;
 use crate::reply::{self, Reply};
 use crate::scripts::{hex, SCRIPTS};
@@ -414,4 +415,79 @@ fn reply_reading_refuses_in_order() {
     assert_eq!(read("0D 00 00 0D", true), 10);
     assert_eq!(read("0D 00 00", false), 10);
     assert_eq!(read("0C 00 00", false), 0);
+}
+
+/// Plans between maps of so many points that differ in these: the answer, the (start, count) list,
+/// the room and the batch. What lies behind the list and the batch is unchanged, and the batch is
+/// made of the packets that the list names.
+fn plan(points: usize, differs: impl Fn(usize) -> bool) -> (Planned, Vec<(usize, usize)>, Vec<u32>) {
+    let held: Vec<u8> = (0..4 * points).map(|place| (place * 7) as u8).collect();
+    let wanted: Vec<u8> =
+        held.iter().enumerate().map(|(place, byte)| byte ^ u8::from(differs(place / 4))).collect();
+    let [mut plan, mut room, mut batch] =
+        [planner::PLAN_BYTES, planner::ROOM_BYTES, planner::BATCH_BYTES + 5].map(|length| vec![0xAA; length]);
+    let lent =
+        planner::Lent { held: &held, wanted: &wanted, plan: &mut plan, room: &mut room, batch: &mut batch };
+    let planned = planner::plan(points as u32, lent).expect("number and lengths are right");
+    let (list, rest) = plan.split_at(4 * planned.packets);
+    assert!(rest.iter().chain(&batch[planned.bytes..]).all(|byte| *byte == 0xAA));
+    let list: Vec<(usize, usize)> = list
+        .as_chunks()
+        .0
+        .iter()
+        .map(|[a, b, c, d]| (u16::from_le_bytes([*a, *b]).into(), u16::from_le_bytes([*c, *d]).into()))
+        .collect();
+    let packets = list.iter().flat_map(|(start, count)| {
+        let points = wanted[4 * start..4 * (start + count)].as_chunks().0;
+        let command = Command::Write(Write::Map { start: *start as u16, points });
+        assemble(Header::from_byte(0x14).options, &command)
+    });
+    assert_eq!(packets.collect::<Vec<u8>>(), batch[..planned.bytes]);
+    (planned, list, room.as_chunks().0.iter().map(|number| u32::from_le_bytes(*number)).collect())
+}
+
+#[test]
+fn bench_plans() {
+    let (planned, list, room) = plan(5, |place| place == 0 || place == 2);
+    assert_eq!((planned, list), (Planned { packets: 1, bytes: 18 }, vec![(0, 3)]));
+    assert_eq!(room[..3], [18, 10, 10]);
+    assert!(room[3..].iter().all(|bytes| *bytes == 0));
+    let (planned, list, _) = plan(4, |place| place == 0 || place == 3);
+    assert_eq!((planned, list), (Planned { packets: 2, bytes: 20 }, vec![(0, 1), (3, 1)]));
+    let (planned, list, _) = plan(128, |place| place != 63);
+    assert_eq!((planned, list), (Planned { packets: 2, bytes: 520 }, vec![(0, 63), (64, 64)]));
+    let (planned, list, _) = plan(1984, |_| true);
+    assert_eq!((planned, list[0]), (Planned { packets: 16, bytes: 8032 }, (0, 94)));
+    assert!(list[1..].iter().all(|(_, count)| *count == 126));
+    let (planned, _, room) = plan(1984, |_| false);
+    assert_eq!((planned, room), (Planned::default(), vec![0; 1985]));
+}
+
+#[test]
+fn planning_refuses_in_order() {
+    let refusal = |points, [held, wanted, plan, room, batch]: [usize; 5]| {
+        let maps = [vec![1; held], vec![2; wanted]];
+        let mut written = [plan, room, batch].map(|length| vec![0xAA; length]);
+        let [plan, room, batch] = &mut written;
+        let refusal =
+            planner::plan(points, planner::Lent { held: &maps[0], wanted: &maps[1], plan, room, batch });
+        let unchanged = written.iter().flatten().all(|byte| *byte == 0xAA);
+        assert_eq!(refusal.is_err(), unchanged);
+        refusal.map_or_else(Refusal::number, |_| 0)
+    };
+    for number in [0, 1985, u32::MAX] {
+        assert_eq!(refusal(number, [0; 5]), 10);
+        assert_eq!(refusal(number, [7940, 7940, 7936, 7940, 8032]), 10);
+    }
+    let right = [12, 12, 7936, 7940, 8032];
+    assert_eq!(refusal(3, right), 0);
+    assert_eq!(refusal(3, [12, 12, 7936, 7940, 9000]), 0);
+    for place in 0..5 {
+        for wrong in [0, 1, right[place] - 1, right[place] + 1, 2 * right[place]] {
+            let mut lengths = right;
+            lengths[place] = wrong;
+            let due = if place == 4 && wrong > 8032 { 0 } else { 1 };
+            assert_eq!(refusal(3, lengths), due, "{lengths:?}");
+        }
+    }
 }

@@ -10,6 +10,7 @@
 //! - [`settings`]: the typed settings, their ranges and their values after reset;
 //! - [`block`]: the layout of the settings block, both ways (refusal 1);
 //! - [`front_end`]: one packet on what a host lends (refusals 1 and 12, effects, the reply), and reset;
+//! - [`planner`]: upload planning (refusals 10 and 1, plan, room and batch);
 //! - [`scripts`]: sessions by hand, each packet with its answer.
 
 #[cfg(test)]
@@ -19,6 +20,7 @@ pub mod command;
 pub mod fields;
 pub mod front_end;
 pub mod packet;
+pub mod planner;
 pub mod refusal;
 pub mod reply;
 pub mod scripts;

@@ -1,0 +1,81 @@
+-- On a refusal nothing changes; else the room is filled, and plan and batch are written from it.
+use mathlib.Core.Path.{_≡_, sym, _∙_}
+use Rattle.wire.specs.First.{first}
+use Rattle.upload.specs.Planning.{Sheets, sheets, planRefusals}
+use Rattle.upload.proofs.Outcome.{Fit, fit, refused, done}
+use borrow.Author.Needs.{needs}
+use Rattle.planner16.proofs.plan.Statement.{statement}
+use Rattle.planner16.proofs.plan.Tie as tie
+
+mul-t11 : tie.Need-mul-t11
+mul-t11 c = search needs
+
+mul-t14 : tie.Need-mul-t14
+mul-t14 c = search needs
+
+refusal-requires : tie.Need-refusal-requires
+refusal-requires c κs = search needs
+
+-- What is known where nothing was refused: the lent lists have the right lengths.
+abbrev at-start : tie.Else1 → tie.Start
+at-start c = c .before .before .before .before .before .before .before
+
+abbrev lent : tie.Else1 → Sheets
+lent c = sheets (at-start c .args .plan .now) (at-start c .args .room .now) (at-start c .args .batch .now)
+
+silent : (c : tie.Else1) → first (planRefusals (at-start c .args .points) (at-start c .args .held .now) (at-start c .args .wanted .now) (lent c)) ≡ 0
+silent c = sym (c .before .refusal .ensures) ∙ c .if1 .left
+
+fits : (c : tie.Else1) → Fit (at-start c .args .points) 2 3968 1985 (at-start c .args .held .now) (at-start c .args .wanted .now) (lent c)
+fits c = fit _ _ _ _ _ _ _ (silent c)
+
+returns : tie.Need-returns
+returns c = refused _ _ _ _ (c .before .refusal .ensures) (c .if1 .taken)
+
+fill-room-requires : tie.Need-fill-room-requires
+fill-room-requires c κs =
+    let f = fits (c .before) in
+    (f .few, f .held-long, f .wanted-long, f .room-long)
+
+write-plan-requires : tie.Need-write-plan-requires
+write-plan-requires c κs =
+    let f = fits (c .before .before .before .before .before .before .before) in
+    (f .few, f .held-long, f .wanted-long, f .plan-long, f .batch-long, c .before .before .before .before .before .fill-room .ensures)
+
+same-length : tie.Need-same-length
+same-length c = search needs
+
+same-length-2 : tie.Need-same-length-2
+same-length-2 c = search needs
+
+same-length-3 : tie.Need-same-length-3
+same-length-3 c = search needs
+
+returns-2 : tie.Need-returns-2
+returns-2 c =
+    let filled = c .before .before .before .before .before .before .before .before .before .before in
+    let taken = filled .before .before in
+    let args = at-start taken .args in
+    let f = fits taken in
+    let wrote = c .before .before .before .before .write-plan .ensures in
+    rw (wrote .0)
+    (done (args .points) (args .held .now) (args .wanted .now) (lent taken) (silent taken)
+    (record { long = f .held-long; words = λ k. taken .before .before .before .before .before .before .shared-slice-known .given k .fits })
+    (record { long = f .wanted-long; words = λ k. taken .before .before .before .before .before .shared-slice-known2 .given k .fits })
+    (filled .fill-room .ensures)
+    (record { packets-are = wrote .1; bytes-are = wrote .2; plan-is = wrote .3; batch-is = wrote .4 }))
+
+pub plan-spec : {M : Type 1} → statement M
+plan-spec =
+    tie.close
+    (tie.spec
+    mul-t11
+    mul-t14
+    refusal-requires
+    returns
+    fill-room-requires
+    write-plan-requires
+    same-length
+    same-length-2
+    same-length-3
+    returns-2)

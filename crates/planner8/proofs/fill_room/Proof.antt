@@ -1,0 +1,81 @@
+-- The loop keeps that the room is filled from i on.
+use Prim.Native.Nat.{_-_}
+use mathlib.Core.Path.{_≡_}
+use native.Mathlib.Omega.{arith}
+use lib.ListN.{length}
+use Rattle.wire.specs.Tables.{words, longs}
+use Rattle.upload.specs.Cost.{differs}
+use Rattle.upload.proofs.Rooms.{Filling, fill-start, fill-behind, fill-turn, fill-done}
+use Rattle.planner8.proofs.Places.{length-longs, clear-longs, words-differ}
+use Rattle.planner8.proofs.fill_room.Statement.{statement}
+use Rattle.planner8.proofs.fill_room.Tie as tie
+
+abbrev Inv-loop : tie.InvT-loop
+Inv-loop held wanted room₀ n i₀ room i = Filling n (differs (words held) (words wanted)) (longs room) i × (length room ≡ 7940)
+
+abbrev μ-loop : tie.MeasureT-loop
+μ-loop held wanted room₀ n i₀ room i = i
+
+mul-clear : tie.Need-mul-clear Inv-loop μ-loop
+mul-clear c = omega arith
+
+clear-requires : tie.Need-clear-requires Inv-loop μ-loop
+clear-requires c κs = omega arith
+
+loop-holds : tie.Need-loop-holds Inv-loop μ-loop
+loop-holds c =
+    let at-start = c .before .before .before .before .before .before .before in
+    let args = at-start .args in
+    let pre = at-start .pre in
+    let all = words-differ (args .n) (args .held .now) (args .wanted .now) (pre .1) (pre .2) in
+    let room = args .room .now in
+    let cleared = c .before .before .clear in (
+      fill-start (longs room) (pre .0) all (omega (arith, length-longs room)) (omega (arith, length-longs room, length-longs (cleared .last .0)))
+          (clear-longs room (args .n) (pre .3) (pre .0) (cleared .ensures)),
+      omega arith,
+    )
+
+sub-i : tie.Need-sub-i Inv-loop μ-loop
+sub-i c = omega arith
+
+least-at-requires : tie.Need-least-at-requires Inv-loop μ-loop
+least-at-requires c κs =
+    let at-loop = c .before .before in
+    (omega arith, omega arith, omega arith, omega arith, omega arith, fill-behind (at-loop .loop .i - 1) (omega arith) (at-loop .loop .inv .0))
+
+put-long-requires : tie.Need-put-long-requires Inv-loop μ-loop
+put-long-requires c κs = omega arith
+
+loop-less : tie.Need-loop-less Inv-loop μ-loop
+loop-less c = omega arith
+
+loop-again : tie.Need-loop-again Inv-loop μ-loop
+loop-again c =
+    let at-start = c .before .before .before .before .before .before .before .before .before .before .before .before .before .before .before in
+    let args = at-start .args in
+    let pre = at-start .pre in
+    let all = words-differ (args .n) (args .held .now) (args .wanted .now) (pre .1) (pre .2) in
+    (rw (c .before .before .put-long .ensures) (fill-turn (pre .0) all (omega arith) (c .before .before .before .before .least-at .ensures) (c .before .before .before .before .before .before .before .loop .inv .0)), omega arith)
+
+same-length : tie.Need-same-length Inv-loop μ-loop
+same-length c = omega arith
+
+returns : tie.Need-returns Inv-loop μ-loop
+returns c = fill-done (c .loop-test .left) (c .before .loop .inv .0)
+
+pub fill-room-spec : {M : Type 1} → statement M
+fill-room-spec =
+    tie.close
+    (tie.spec
+    Inv-loop
+    μ-loop
+    mul-clear
+    clear-requires
+    loop-holds
+    sub-i
+    least-at-requires
+    put-long-requires
+    loop-less
+    loop-again
+    same-length
+    returns)

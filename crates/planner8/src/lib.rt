@@ -1,0 +1,279 @@
+// Upload planning on lists that are lent as their bytes, low byte first. It works where the bytes lie: each function here reads or writes numbers
+// in place, and its promise speaks of the numbers that the bytes hold.
+ghost use mathlib.Core.Path.{_≡_};
+ghost use mathlib.Core.Bool.{false};
+ghost use mathlib.Core.List.{[], _∷_, _++_};
+ghost use Prim.Native.Nat.{ℕ, _+_, _-_, _*_, _%_, _≤_, _<_};
+ghost use lib.ListN.{length, take, drop, getD, set, replicate};
+ghost use lib.Seq.{sets};
+ghost use Rattle.wire.specs.Buffers.{over};
+ghost use Rattle.wire.specs.Tables.{words, longs};
+ghost use Rattle.upload.specs.Cost.{differs, best, least, rooms, more};
+ghost use Rattle.upload.specs.Plan.{planOf, planNumbers, packetFor, batchOf};
+ghost use Rattle.upload.specs.Parts.{part};
+ghost use Rattle.upload.specs.Planning.{sheets, planOut, roomOf, PlannedBytes};
+use planner16::Answer;
+use planner16::Lengths;
+
+// The number of two bytes, low byte first.
+fn number(low: u8, high: u8) -> u32
+    ensures { λ r. ⌜ (r ≡ low + 256 * high) × (r < 65536) ⌝ }
+{
+    low as u32 + 256 * (high as u32)
+}
+
+// The 16-bit number i.
+fn word_at(s: &[u8], i: usize) -> u32
+    requires { ⌜ 2 * i + 1 < length (now s) ⌝ }
+    ensures { λ r. ⌜ r ≡ getD (words (now (s .entry))) i 0 ⌝ }
+{
+    let j = 2 * i;
+    number(s[j], s[j + 1])
+}
+
+// The 32-bit number i.
+fn long_at(s: &[u8], i: usize) -> u32
+    requires { ⌜ 4 * i + 3 < length (now s) ⌝ }
+    ensures { λ r. ⌜ r ≡ getD (longs (now (s .entry))) i 0 ⌝ }
+{
+    let j = 4 * i;
+    number(s[j], s[j + 1]) + 65536 * number(s[j + 2], s[j + 3])
+}
+
+// Stores the 32-bit number i.
+fn put_long(s: &mut [u8], i: usize, v: u32)
+    requires { ⌜ 4 * i + 3 < length (now s) ⌝ }
+    ensures { λ _. ⌜ longs (now (s .exit)) ≡ set (longs (now (s .entry))) i v ⌝ }
+{
+    wire::put_word(s, 4 * i, (v % 65536) as usize);
+    wire::put_word(s, 4 * i + 2, (v / 65536) as usize);
+}
+
+// Whether a point differs.
+fn differs_at(held: &[u8], wanted: &[u8], i: usize) -> bool
+    requires { ⌜ (4 * i + 3 < length (now held)) × (4 * i + 3 < length (now wanted)) ⌝ }
+    ensures { λ r. ⌜ r ≡ getD (differs (words (now (held .entry))) (words (now (wanted .entry)))) i false ⌝ }
+{
+    let j = 2 * i;
+    if word_at(held, j) != word_at(wanted, j) {
+        return true;
+    }
+    if word_at(held, j + 1) != word_at(wanted, j + 1) {
+        return true;
+    }
+    false
+}
+
+// The least bytes from a place on, where the open packet may still take k points: j points more cost w bytes more.
+fn low(room: &[u8], from: usize, k: usize) -> u32
+    requires { ⌜ (k ≤ 125) × (4 * (from + k) + 3 < length (now room)) × ((j : ℕ) → getD (drop from (longs (now room))) j 0 < 65536) ⌝ }
+    ensures { λ r. ⌜ r ≡ best k (drop from (longs (now (room .entry)))) ⌝ }
+{
+    let mut m = long_at(room, from);
+    let mut j = 0;
+    let mut w: u32 = 0;
+    while j < k {
+        j += 1;
+        w += 4;
+        m = planner16::lesser(m, long_at(room, from + j) + w);
+    }
+    m
+}
+
+// The least bytes for the points from i on, where the room behind i is filled.
+fn least_at(held: &[u8], wanted: &[u8], room: &[u8], n: usize, i: usize) -> u32
+    requires { ⌜
+        (i < n)
+        × (n ≤ 1984)
+        × (length (now held) ≡ 4 * n)
+        × (length (now wanted) ≡ 4 * n)
+        × (length (now room) ≡ 7940)
+        × (drop (i + 1) (longs (now room))
+        ≡ rooms (drop (i + 1) (differs (words (now held)) (words (now wanted)))) ++ replicate (1984 - n) 0)
+        ⌝ }
+    ensures { λ r.
+        ⌜
+        r
+        ≡ least (getD (differs (words (now (held .entry))) (words (now (wanted .entry)))) i false)
+        (rooms (drop (i + 1) (differs (words (now (held .entry))) (words (now (wanted .entry))))))
+        ⌝ }
+{
+    let next = i + 1;
+    if differs_at(held, wanted, i) {
+        return 10 + low(room, next, planner16::span(n - next));
+    }
+    long_at(room, next)
+}
+
+// Zeros from a place on.
+fn clear(room: &mut [u8], from: usize)
+    requires { ⌜ from ≤ length (now room) ⌝ }
+    ensures { λ _. ⌜ now (room .exit) ≡ take from (now (room .entry)) ++ replicate (length (now (room .entry)) - from) 0 ⌝ }
+{
+    let n = room.len() - from;
+    let mut k = 0;
+    while k < n {
+        room[from + k] = 0;
+        k += 1;
+    }
+}
+
+// The working room, from the back.
+fn fill_room(held: &[u8], wanted: &[u8], room: &mut [u8], n: usize)
+    requires { ⌜
+        (n ≤ 1984)
+        × (length (now held) ≡ 4 * n)
+        × (length (now wanted) ≡ 4 * n)
+        × (length (now room) ≡ 7940)
+        ⌝ }
+    ensures { λ _. ⌜ longs (now (room .exit)) ≡ roomOf n (words (now (held .entry))) (words (now (wanted .entry))) ⌝ }
+{
+    clear(room, 4 * n);
+    let mut i = n;
+    while 0 < i {
+        i -= 1;
+        let v = least_at(held, wanted, room, n, i);
+        put_long(room, i, v);
+    }
+}
+
+// How many points the packet takes that begins at i, at most so many behind it: the smallest count that costs least.
+fn count_at(room: &[u8], i: usize, most: usize) -> usize
+    requires { ⌜
+        (most ≤ 125)
+        × (i + 1 + most < length (longs (now room)))
+        × (getD (longs (now room)) i 0 ≡ 10 + best most (drop (i + 1) (longs (now room))))
+        × ((j : ℕ) → getD (drop (i + 1) (longs (now room))) j 0 < 65536)
+        ⌝ }
+    ensures { λ r. ⌜ r ≡ 1 + more most (drop (i + 1) (longs (now (room .entry)))) ⌝ }
+{
+    let next = i + 1;
+    let least = long_at(room, i) - 10;
+    let mut left = most;
+    while 0 < left {
+        let c = most - left;
+        if long_at(room, next + c) + 4 * (c as u32) <= least {
+            return 1 + c;
+        }
+        left -= 1;
+    }
+    1 + most
+}
+
+// One packet of the plan: start and count.
+fn put_part(plan: &mut [u8], p: usize, start: usize, count: usize)
+    requires { ⌜ (2 * p + 1 < length (words (now plan))) × (start < 65536) × (count < 65536) ⌝ }
+    ensures { λ _. ⌜ words (now (plan .exit)) ≡ sets (words (now (plan .entry))) (2 * p) (start ∷ count ∷ []) ⌝ }
+{
+    wire::put_word(plan, 4 * p, start);
+    wire::put_word(plan, 4 * p + 2, count);
+}
+
+// One packet of the batch: header, opcode, length, start and the points.
+fn put_packet(batch: &mut [u8], at: usize, wanted: &[u8], start: usize, count: usize)
+    requires { ⌜
+        (at + (6 + 4 * count) ≤ length (now batch))
+        × (1 ≤ count)
+        × (count ≤ 126)
+        × (4 * (start + count) ≤ length (now wanted))
+        × (start < 65536)
+        × (length (now wanted) % 4 ≡ 0)
+        ⌝ }
+    ensures { λ _. ⌜ now (batch .exit) ≡ sets (now (batch .entry)) at (packetFor (words (now (wanted .entry))) (part start count)) ⌝ }
+{
+    wire::put_word(batch, at, 0x3414);
+    wire::put_word(batch, at + 2, 2 + 4 * count);
+    wire::put_word(batch, at + 4, start);
+    wire::copy(batch, at + 6, wanted, 4 * start, 4 * count);
+}
+
+// The plan and its batch, from the filled room.
+fn write_plan(
+    held: &[u8],
+    wanted: &[u8],
+    plan: &mut [u8],
+    room: &[u8],
+    batch: &mut [u8],
+    n: usize,
+) -> Answer
+    requires { ⌜
+        (n ≤ 1984)
+        × (length (now held) ≡ 4 * n)
+        × (length (now wanted) ≡ 4 * n)
+        × (length (now plan) ≡ 7936)
+        × (8032 ≤ length (now batch))
+        × (longs (now room) ≡ roomOf n (words (now held)) (words (now wanted)))
+        ⌝ }
+    ensures { λ r.
+        ⌜
+        (r .status ≡ 0)
+        × (r .packets ≡ length (planOf (words (now (held .entry))) (words (now (wanted .entry)))))
+        × (r .bytes ≡ length (batchOf (words (now (held .entry))) (words (now (wanted .entry)))))
+        × (words (now (plan .exit))
+        ≡ over (planNumbers (planOf (words (now (held .entry))) (words (now (wanted .entry))))) (words (now (plan .entry))))
+        × (now (batch .exit) ≡ over (batchOf (words (now (held .entry))) (words (now (wanted .entry)))) (now (batch .entry)))
+        ⌝ }
+{
+    let mut packets = 0;
+    let mut bytes = 0;
+    let mut i = 0;
+    while i < n {
+        if differs_at(held, wanted, i) {
+            let most = planner16::span(n - (i + 1));
+            let count = count_at(room, i, most);
+            put_part(plan, packets, i, count);
+            put_packet(batch, bytes, wanted, i, count);
+            packets += 1;
+            bytes += 6 + 4 * count;
+            i += count;
+        } else {
+            i += 1;
+        }
+    }
+    Answer {
+        status: 0,
+        packets,
+        bytes,
+    }
+}
+
+// Plans the upload of wanted over held: the plan, the working room and the batch of packets.
+pub fn plan_bytes(
+    points: u32,
+    held: &[u8],
+    wanted: &[u8],
+    plan: &mut [u8],
+    room: &mut [u8],
+    batch: &mut [u8],
+) -> Answer
+    ensures { λ r.
+        ⌜
+        PlannedBytes points (now (held .entry)) (now (wanted .entry))
+        (sheets (now (plan .entry)) (now (room .entry)) (now (batch .entry)))
+        (planOut (r .status) (r .packets) (r .bytes) (sheets (now (plan .exit)) (now (room .exit)) (now (batch .exit))))
+        ⌝ }
+{
+    let n = points as usize;
+    let lent = Lengths {
+        held: held.len(),
+        wanted: wanted.len(),
+        plan: plan.len(),
+        room: room.len(),
+    };
+    let asked = Lengths {
+        held: 4 * n,
+        wanted: 4 * n,
+        plan: 7936,
+        room: 7940,
+    };
+    let status = planner16::refusal(points, lent, asked, batch.len());
+    if status != 0 {
+        return Answer {
+            status,
+            packets: 0,
+            bytes: 0,
+        };
+    }
+    fill_room(held, wanted, room, n);
+    write_plan(held, wanted, plan, room, batch, n)
+}

@@ -1,0 +1,92 @@
+-- The walk over the points where planning does it: maps of n points, a filled room, and a plan and a batch that are long enough. At a point that
+-- differs: what the search for the count asks, where the packet goes, and one turn of the walk.
+use Prim.Native.Nat.{ℕ, _+_, _-_, _*_, _≤_, _<_, min}
+use mathlib.Core.Path.{_≡_, sym, ap, _∙_}
+use mathlib.Core.Bool.{true, false}
+use mathlib.Core.List.{List, [], _∷_, _++_}
+use native.Mathlib.Omega.{arith}
+use lib.ListN.{length, drop, getD, replicate}
+use lib.Seq.{sets, length-sets}
+use Rattle.upload.specs.Cost.{differs, best, rooms, more}
+use Rattle.upload.specs.Plan.{planFrom, planOf, cost, packetFor}
+use Rattle.upload.specs.Judge.{MapOf}
+use Rattle.upload.specs.Parts.{part}
+use Rattle.upload.specs.Planning.{roomOf}
+use Rattle.upload.proofs.Differs.{differs-long}
+use Rattle.upload.proofs.Lists.{plan-bound}
+use Rattle.upload.proofs.Rooms.{whole-long, whole-behind, whole-here, behind-small, behind-more, least-open}
+use Rattle.upload.proofs.Walk.{Walking, walk-skip, walk-fits, walk-room, walk-part, Walked, walk-done}
+use Rattle.upload.proofs.Outcome.{batch-short}
+
+pub record Site (n : ℕ) (held wanted plan room batch : List ℕ) : Type 0 where
+  pub few : n ≤ 1984
+  pub held-map : MapOf n held
+  pub wanted-map : MapOf n wanted
+  pub plan-long : length plan ≡ 3968
+  pub batch-long : 8032 ≤ length batch
+  pub filled : room ≡ roomOf n held wanted
+
+-- Where the packet goes.
+pub record Place (n packets size i count : ℕ) (plan batch : List ℕ) : Type 0 where
+  pub in-plan : 2 * packets + 1 < length plan
+  pub in-batch : size + (6 + 4 * count) ≤ length batch
+  pub bytes-few : size + (6 + 4 * count) ≤ 8032
+  pub some : 1 ≤ count
+  pub count-few : count ≤ 126
+  pub within : i + count ≤ n
+
+module _ {n : ℕ} {held wanted plan₀ room batch₀ : List ℕ} (s : Site n held wanted plan₀ room batch₀) where
+  all : length (differs held wanted) ≡ n
+  all = differs-long n held wanted (s .held-map .long) (s .wanted-map .long)
+
+  module _ {i : ℕ} (inside : i < n) where
+    behind : drop (i + 1) room ≡ rooms (drop (i + 1) (differs held wanted)) ++ replicate (1984 - n) 0
+    behind = whole-behind n (s .few) (differs held wanted) all room (s .filled) i inside
+
+    -- The search goes over k counts more.
+    pub site-count : (k : ℕ) → k ≡ min 125 (n - (i + 1)) → getD (differs held wanted) i false ≡ true
+        → (k ≤ 125)
+        × (i + 1 + k < length room)
+        × (getD room i 0 ≡ 10 + best k (drop (i + 1) room))
+        × ((j : ℕ) → getD (drop (i + 1) room) j 0 < 65536)
+    site-count k e d = (
+      omega arith,
+      omega (arith, s .few, whole-long n (s .few) (differs held wanted) all room (s .filled)),
+      whole-here n (s .few) (differs held wanted) all room (s .filled) i inside
+          ∙ sym (least-open n (s .few) (differs held wanted) all i inside room behind k e d),
+      behind-small n (s .few) (differs held wanted) all i inside room behind,
+    )
+
+    module _ {plan batch : List ℕ} {packets size : ℕ} (t : Walking n wanted (differs held wanted) plan₀ batch₀ plan batch packets size i) where
+      pub site-skip : getD (differs held wanted) i false ≡ false → Walking n wanted (differs held wanted) plan₀ batch₀ plan batch packets size (i + 1)
+      site-skip d = walk-skip all inside t d
+
+      module _ {k count : ℕ} (d : getD (differs held wanted) i false ≡ true) (f : k ≡ min 125 (n - (i + 1))) (e : count ≡ 1 + more k (drop (i + 1) room)) where
+        counted : count ≡ 1 + more 125 (rooms (drop (i + 1) (differs held wanted)))
+        counted = omega (arith, behind-more n (s .few) (differs held wanted) all i inside room behind k f)
+
+        pub site-place : Place n packets size i count plan batch
+        unfolding planOf
+        site-place =
+            let fits = walk-fits all inside t d counted in
+            let bound : cost (planFrom 0 0 (differs held wanted)) ≤ 8032 = omega (arith, s .few, plan-bound n held wanted (s .held-map) (s .wanted-map)) in
+            let enough = walk-room all inside t d counted bound in
+            record {
+              in-plan = omega (arith, s .few, s .plan-long, t .few, simp length-sets at (ap length (t .planned)));
+              in-batch = omega (arith, enough, s .batch-long, simp length-sets at (ap length (t .batched)));
+              bytes-few = enough;
+              some = fits .some;
+              count-few = fits .few;
+              within = fits .within;
+            }
+
+        pub site-turn : {plan′ batch′ : List ℕ} → plan′ ≡ sets plan (2 * packets) (i ∷ count ∷ [])
+            → batch′ ≡ sets batch size (packetFor wanted (part i count))
+            → Walking n wanted (differs held wanted) plan₀ batch₀ plan′ batch′ (packets + 1) (size + (6 + 4 * count)) (i + count)
+        site-turn g h = walk-part all inside t d counted (s .wanted-map .long) g h
+
+  pub site-done : {plan batch : List ℕ} {packets size i : ℕ} → n ≤ i
+      → Walking n wanted (differs held wanted) plan₀ batch₀ plan batch packets size i → Walked held wanted plan₀ batch₀ plan batch packets size
+  site-done h t =
+      walk-done all h (omega (arith, s .few, s .plan-long))
+      (omega (arith, s .batch-long, batch-short n held wanted (s .few) (s .held-map) (s .wanted-map))) t

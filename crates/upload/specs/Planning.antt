@@ -1,0 +1,113 @@
+-- What planning answers, and what it leaves in the lent lists. Document 01, "Upload plan": "Refusals: N out of range 10; else 1 if held or
+-- wanted isn't 2N long, the plan isn't 3,968 16-bit numbers, working room isn't 1,985 numbers of 32 bits, or the batch buffer is under 8,032
+-- bytes; nothing is changed. After success, plan and batch beyond their used parts are unchanged, and working room holds at each index i below
+-- N the least bytes for the points from i on, and 0 from N on."
+use Prim.Native.Nat.{ℕ, _+_, _-_, _*_, _≤_}
+use mathlib.Core.Path.{_≡_}
+use mathlib.Core.Bool.{Bool, cond, not, _&&_, _||_}
+use mathlib.Core.List.{List, [], _∷_, _++_}
+use lib.ListN.{length, take, replicate}
+use lib.Dec.{eqb, leb, ltb}
+use Rattle.wire.specs.First.{first}
+use Rattle.wire.specs.Buffers.{over}
+use Rattle.wire.specs.Tables.{words, bytes, longs, longBytes}
+use Rattle.upload.specs.Cost.{differs, rooms}
+use Rattle.upload.specs.Plan.{planOf, planNumbers, batchOf, joined}
+use Rattle.upload.specs.Judge.{Turns, bytesOf, AllAccepted}
+
+-- The lists that planning writes.
+pub record Sheets : Type 0 where
+  pub plan : List ℕ
+  pub room : List ℕ
+  pub batch : List ℕ
+
+abbrev pub sheets : List ℕ → List ℕ → List ℕ → Sheets
+sheets plan room batch = record { plan = plan; room = room; batch = batch }
+
+-- 10: "N points, 1-1,984".
+abbrev pub pointsWrong : ℕ → Bool
+pointsWrong n = eqb n 0 || ltb 1984 n
+
+-- 1: lengths, of tables of numbers.
+abbrev pub lengthsWrong : ℕ → List ℕ → List ℕ → Sheets → Bool
+lengthsWrong n held wanted s =
+    not
+    (eqb (length held) (2 * n)
+    && eqb (length wanted) (2 * n)
+    && eqb (length (s .plan)) 3968
+    && eqb (length (s .room)) 1985
+    && leb 8032 (length (s .batch)))
+
+abbrev pub planRefusals : ℕ → List ℕ → List ℕ → Sheets → List (ℕ × Bool)
+planRefusals n held wanted s = (10, pointsWrong n) ∷ (1, lengthsWrong n held wanted s) ∷ []
+
+-- "The answer gives the number of packets and the batch's length, both 0 on a refusal."
+pub record PlanOut : Type 0 where
+  pub status : ℕ
+  pub packets : ℕ
+  pub bytes : ℕ
+  pub left : Sheets
+
+abbrev pub planOut : ℕ → ℕ → ℕ → Sheets → PlanOut
+planOut status packets bytes s = record { status = status; packets = packets; bytes = bytes; left = s }
+
+-- The room of N points: N + 1 numbers, and 0 up to the end.
+abbrev pub roomOf : ℕ → List ℕ → List ℕ → List ℕ
+roomOf n held wanted = rooms (differs held wanted) ++ replicate (1984 - n) 0
+
+abbrev pub plannedBy : ℕ → ℕ → List ℕ → List ℕ → Sheets → PlanOut
+plannedBy number n held wanted s =
+    cond (eqb number 0)
+    (planOut 0 (length (planOf held wanted)) (length (batchOf held wanted))
+    (sheets (over (planNumbers (planOf held wanted)) (s .plan)) (roomOf n held wanted) (over (batchOf held wanted) (s .batch))))
+    (planOut number 0 0 s)
+
+unfoldable pub planned : ℕ → List ℕ → List ℕ → Sheets → PlanOut
+planned n held wanted s = plannedBy (first (planRefusals n held wanted s)) n held wanted s
+
+-- Demand 3 of an answer: the first so many bytes of the batch are packets back to back that turn held into wanted, all accepted, and every list
+-- of packets that turns held into wanted has at least as many bytes.
+pub record Fewest (n : ℕ) (held wanted : List ℕ) (count : ℕ) (batch : List ℕ) : Type 0 where
+  pub packets : List (List ℕ)
+  pub back-to-back : joined packets ≡ take count batch
+  pub accepted : AllAccepted n packets
+  pub turns : Turns n held wanted packets
+  pub total : bytesOf packets ≡ count
+  pub least : (ps : List (List ℕ)) → Turns n held wanted ps → count ≤ bytesOf ps
+
+-- The promise of planning: its answer and every lent list, and demand 3 of the byte count answered.
+pub record Planned (n : ℕ) (held wanted : List ℕ) (before : Sheets) (o : PlanOut) : Type 0 where
+  pub outcome : o ≡ planned n held wanted before
+  pub fewest : o .status ≡ 0 → Fewest n held wanted (o .bytes) (o .left .batch)
+
+-- ---- Lists lent as bytes: "the answers are those of the entries on wider numbers".
+
+abbrev pub byteLengthsWrong : ℕ → List ℕ → List ℕ → Sheets → Bool
+byteLengthsWrong n held wanted s =
+    not
+    (eqb (length held) (4 * n)
+    && eqb (length wanted) (4 * n)
+    && eqb (length (s .plan)) 7936
+    && eqb (length (s .room)) 7940
+    && leb 8032 (length (s .batch)))
+
+abbrev pub sheetsIn : Sheets → Sheets
+sheetsIn s = sheets (words (s .plan)) (longs (s .room)) (s .batch)
+
+abbrev pub sheetBytes : Sheets → Sheets
+sheetBytes s = sheets (bytes (s .plan)) (longBytes (s .room)) (s .batch)
+
+abbrev pub bytePlanOut : PlanOut → PlanOut
+bytePlanOut o = planOut (o .status) (o .packets) (o .bytes) (sheetBytes (o .left))
+
+abbrev pub bytePlanRefusals : ℕ → List ℕ → List ℕ → Sheets → List (ℕ × Bool)
+bytePlanRefusals n held wanted s = (10, pointsWrong n) ∷ (1, byteLengthsWrong n held wanted s) ∷ []
+
+unfoldable pub plannedBytes : ℕ → List ℕ → List ℕ → Sheets → PlanOut
+plannedBytes n held wanted s =
+    cond (eqb (first (bytePlanRefusals n held wanted s)) 0) (bytePlanOut (planned n (words held) (words wanted) (sheetsIn s)))
+    (planOut (first (bytePlanRefusals n held wanted s)) 0 0 s)
+
+pub record PlannedBytes (n : ℕ) (held wanted : List ℕ) (before : Sheets) (o : PlanOut) : Type 0 where
+  pub outcome : o ≡ plannedBytes n held wanted before
+  pub fewest : o .status ≡ 0 → Fewest n (words held) (words wanted) (o .bytes) (o .left .batch)

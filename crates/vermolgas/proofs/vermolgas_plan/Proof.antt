@@ -1,0 +1,71 @@
+-- Status, packets and bytes are packed side by side, and none of them is large, so each is what its bits say.
+use Prim.Native.Nat.{ℕ, _+_, _*_, _/_, _≤_}
+use mathlib.Core.Path.{_≡_, ap, subst, sym}
+use native.Mathlib.Omega.{arith}
+use borrow.Author.Needs.{needs}
+use Rattle.upload.specs.Planning.{sheets, PlanOut}
+use Rattle.upload.proofs.Small.{answer-small}
+use Rattle.vermolgas.specs.Packed.{packedPlan}
+use Rattle.vermolgas.proofs.vermolgas_plan.Statement.{statement}
+use Rattle.vermolgas.proofs.vermolgas_plan.Tie as tie
+
+small : (c : tie.After-struct-known) → (c .before .before .before .before .before .before .before .plan-bytes .result .packets ≤ 8032) × (c .before .before .before .before .before .before .before .plan-bytes .result .bytes ≤ 8032)
+small c =
+    let args = c .before .before .before .before .before .before .before .before .before .before .before .before .before .before .before .before .args in
+    subst (λ (o : PlanOut). (o .packets ≤ 8032) × (o .bytes ≤ 8032)) (sym (c .before .before .before .before .before .before .before .plan-bytes .ensures .outcome))
+    (answer-small (args .points) (args .held .now) (args .wanted .now) (sheets (args .plan .now) (args .room .now) (args .batch .now))
+    (λ k. c .before .before .before .before .before .before .before .before .before .before .before .before .before .before .before .shared-slice-known .given k .fits) (λ k. c .before .before .before .before .before .before .before .before .before .before .before .before .before .before .shared-slice-known2 .given k .fits))
+
+plan-bytes-requires : tie.Need-plan-bytes-requires
+plan-bytes-requires c κs = search needs
+
+cast-result : tie.Need-cast-result
+cast-result c = search needs
+
+mul-result : tie.Need-mul-result
+mul-result c = omega (arith, small c)
+
+add-result : tie.Need-add-result
+add-result c = omega (arith, small c)
+
+mul-result-2 : tie.Need-mul-result-2
+mul-result-2 c = omega (arith, small c)
+
+add-result-2 : tie.Need-add-result-2
+add-result-2 c = omega (arith, small c)
+
+same-length : tie.Need-same-length
+same-length c = search needs
+
+same-length-2 : tie.Need-same-length-2
+same-length-2 c = search needs
+
+same-length-3 : tie.Need-same-length-3
+same-length-3 c = search needs
+
+returns : tie.Need-returns
+returns c =
+    let a = c .before .before .before .before .before .before .before .plan-bytes .result in
+    let told = c .before .before .before .before .before .before .before .plan-bytes .ensures in
+    let s = small c in
+    let bytes : (a .status + 256 * a .packets + 4294967296 * a .bytes) / 4294967296 ≡ a .bytes = omega (arith, s) in
+    record {
+      packed = ap packedPlan (told .outcome);
+      lists = ap (λ (o : PlanOut). o .left) (told .outcome);
+      fewest = λ z. rw bytes (told .fewest (omega arith));
+    }
+
+pub vermolgas-plan-spec : {M : Type 1} → statement M
+vermolgas-plan-spec =
+    tie.close
+    (tie.spec
+    plan-bytes-requires
+    cast-result
+    mul-result
+    add-result
+    mul-result-2
+    add-result-2
+    same-length
+    same-length-2
+    same-length-3
+    returns)

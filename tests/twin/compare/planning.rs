@@ -1,0 +1,66 @@
+//! Compares `vermolgas_plan` with the twin: the answer, plan, room and batch in full, and the bytes
+//! around each. Each batch is read by `vermolgas_read` and, where a shape has so many points, sent
+//! through `vermolgas_packet`; it has to give the wanted map. The seed may be given as the one
+//! argument; it and all counts are printed, and counts that fall short are failures.
+
+mod covers;
+#[allow(dead_code, reason = "each program calls some of the entries")]
+mod library;
+#[allow(dead_code, reason = "each program draws some kinds of numbers")]
+mod random;
+#[allow(dead_code, reason = "each program shows some of its inputs in hex")]
+mod report;
+mod upload;
+mod uploads;
+
+use std::process::ExitCode;
+
+use report::Report;
+use twin::settings::POINTS;
+use upload::Upload;
+
+fn main() -> ExitCode {
+    let mut upload = match Report::from_arguments() {
+        Ok(report) => Upload::new(report),
+        Err(status) => return status,
+    };
+    upload.group("bench plans of document 01", uploads::bench_plans);
+    upload.group("every pattern of up to 12 points", uploads::every_pattern);
+    upload.group("every cover of up to 9 points", covers::every_list);
+    upload.group("overlaps, repeats and any order, up to 12 points", covers::any_order);
+    upload.group("every number of points", uploads::every_number);
+    upload.group("every density", uploads::densities);
+    upload.group("runs of 120 to 130", uploads::runs);
+    upload.group("all different, every second, every third", uploads::regular);
+    upload.group("equal maps, the same bytes, overlapping maps", uploads::alike);
+    upload.group("every shape", uploads::every_shape);
+    upload.group("number of points refused", uploads::numbers_refused);
+    upload.group("lent lengths", uploads::lengths);
+    upload.group("NULL for an empty slice", uploads::null_pointers);
+    check_counts(&mut upload);
+    upload.report.finish()
+}
+
+/// Counts that fall short are failures.
+fn check_counts(upload: &mut Upload) {
+    let (counts, report) = (&upload.counts, &mut upload.report);
+    let mut at_least = |name: &str, count: u64, least: u64| {
+        report.close(name, count >= least, &format!("{count}, at least {least}"));
+    };
+    let numbers = counts.by_points.iter().filter(|count| **count > 0).count();
+    at_least("numbers of points planned", numbers as u64, POINTS as u64);
+    at_least("plans", counts.by_points.iter().sum(), 50_000);
+    at_least("plans for over 1,000 points", counts.by_points[1001..].iter().sum(), 8_000);
+    at_least("plans where more than one count is cheapest", counts.tied, 3_000);
+    at_least("plans without a packet", counts.empty, 500);
+    at_least("plans at the bound", counts.at_bound, 1_000);
+    at_least("packets read", counts.packets, 1_000_000);
+    at_least("packets of 126 points", counts.full_packets, 5_000);
+    at_least("packets over a point that doesn't differ", counts.bridges, 100_000);
+    at_least("packets sent to the front end", counts.sent, 200_000);
+    let shapes = counts.by_shape.iter().flatten().filter(|count| **count > 0).count();
+    at_least("shapes sent", shapes as u64, 61 * 31);
+    at_least("lists held against a plan", counts.lists, 1_000_000);
+    at_least("refused with 10", counts.range, 1_000);
+    at_least("refused with 1", counts.lent, 5_000);
+}
