@@ -10,9 +10,12 @@
  *
  * No entry keeps anything between calls: all state is in the buffers lent to it.
  *
- * Every answer is one number. Its low byte is 0 if the call was accepted, else the number of the refusal. After a
- * refusal its other fields are 0 and every buffer is unchanged; vermolgas_packet alone still replies. The macros below
- * take an answer apart; each uses its argument once.
+ * Every answer is one number. Its low byte is 0 if the call was accepted, else the number of the refusal: take it out
+ * with VERMOLGAS_STATUS, for the other bits of a refusal are reserved. After a refusal every buffer is unchanged;
+ * vermolgas_packet alone still writes its reply, and answers its length. The macros below take an answer apart; each
+ * uses its argument once.
+ *
+ * docs/INTERFACE.md has the commands and what each may carry, docs/LAYOUT.md the settings block.
  */
 #ifndef VERMOLGAS_H
 #define VERMOLGAS_H
@@ -35,7 +38,7 @@ enum vermolgas_refusal {
     VERMOLGAS_REFUSED_DESTINATION = 6,    /* the destination isn't 4 */
     VERMOLGAS_REFUSED_OPCODE = 7,         /* the opcode isn't carried */
     VERMOLGAS_REFUSED_LENGTH_MISSING = 8, /* a write of 2Bh, 34h, 35h or 38h has no length field */
-    VERMOLGAS_REFUSED_SIZE = 9,           /* the data size is wrong for the command */
+    VERMOLGAS_REFUSED_SIZE = 9,           /* the data size is wrong, or a gain count differs from its words */
     VERMOLGAS_REFUSED_RANGE = 10,         /* a value is out of range or reserved */
     VERMOLGAS_REFUSED_NOT_CARRIED = 11,   /* merge mode, compressed gains */
     VERMOLGAS_REFUSED_PAST_TABLE = 12     /* a start and count run past their table */
