@@ -23,6 +23,23 @@ fn main() {
     // Refusal 12 comes after reading, which takes this one.
     present(b"\x14\x34\x06\x00\xC0\x07\x01\x00\x02\x00");
     present(b"\x14\x2B\x08\x00\x00\x01\x01\x00\xDF\x07\x00\x14");
+    // Points 0 and 2 differ; points 0 and 3 differ.
+    present_plan(&[0, 0, 0, 0, 0, 0, 0, 0], &[1, 2, 0, 0, 3, 4, 0, 0]);
+    present_plan(&[0, 0, 0, 0, 0, 0, 0, 0], &[1, 2, 0, 0, 0, 0, 3, 4]);
+}
+
+// The plan for a map of four points: its packets, its bytes and the batch.
+fn present_plan(held: &[u16], wanted: &[u16]) {
+    let mut plan = [0u16; 3968];
+    let mut room = [0u32; 1985];
+    let mut batch = [0u8; 8032];
+    let a = planner16::plan(4, held, wanted, &mut plan, &mut room, &mut batch);
+    print_number(b"plan: status ", a.status as u64);
+    print_number(b", packets ", a.packets as u64);
+    print_number(b", bytes ", a.bytes as u64);
+    io::write_all(1, b"\n ");
+    show::bytes(&batch, a.bytes);
+    io::write_all(1, b"\n");
 }
 
 // One packet: its bytes, what reading gives, and the bytes made again.
