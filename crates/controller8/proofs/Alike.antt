@@ -5,12 +5,13 @@ use mathlib.Core.Path.{_≡_}
 use mathlib.Core.Bool.{true, false}
 use mathlib.Core.List.{List}
 use Rattle.tables.proofs.Bytes.{words-bytes}
-use Rattle.controller.specs.State.{reset}
+use Rattle.controller.specs.State.{lengthsRight, reset}
 use Rattle.controller.specs.Step.{step}
 use Rattle.controller8.specs.Bytes.{Lent, stateIn, bytesOf, byteLengthsRight, lentOut, outBytes, stepBytes, lentReset, resetBytes}
 use Rattle.controller8.proofs.Ways.{sized, wide-lengths}
 
 pub record Alike (p : List ℕ) (l : Lent) (reply : List ℕ) : Type 0 where
+  pub lengths : byteLengthsRight l ≡ true → lengthsRight (stateIn l) ≡ true
   pub answers : byteLengthsRight l ≡ true → stepBytes p l reply ≡ outBytes (step p (stateIn l) reply)
   -- The tables, read as numbers again.
   pub numbers : byteLengthsRight l ≡ true → stateIn (stepBytes p l reply .lent) ≡ step p (stateIn l) reply .state
@@ -22,6 +23,7 @@ pub alike : (p : List ℕ) (l : Lent) (reply : List ℕ) → Alike p l reply
 unfolding stepBytes resetBytes reset
 alike p l reply =
     record {
+      lengths = λ e. wide-lengths l (sized l e);
       answers = λ e. rw e;
       numbers = λ e. rw (e, words-bytes, words-bytes, words-bytes);
       resets = λ e. rw (e, wide-lengths l (sized l e));

@@ -12,7 +12,7 @@ ghost use Rattle.settings.specs.Reset.{resetBlock};
 ghost use Rattle.settings.specs.Spread.{spreadOver, shapeOver};
 
 // Whether every stored setting, staged and live, lies in its range. The bytes past them are not judged. Every packet asks this, so
-// the parts are judged without branches, each joined to what those before it came to.
+// the parts are judged one after another without an early return, each joined to what those before it came to.
 pub fn in_range(block: &[u8]) -> bool
     requires { ⌜ length (now block) ≡ 1024 ⌝ }
     ensures { λ r. ⌜ r ≡ settingsRight (now (block .entry)) ⌝ }
