@@ -1,5 +1,5 @@
 -- An accepted 36h write of 1 makes the staged side live: its points, and its shape, mode and lists.
-use Prim.Native.Nat.{ℕ, _+_, _≤_}
+use Prim.Native.Nat.{ℕ, _≤_}
 use mathlib.Core.Path.{_≡_, refl, ap, _∙_}
 use mathlib.Core.List.{List, [], _∷_, append-assoc}
 use native.Mathlib.Omega.{arith}
@@ -7,7 +7,7 @@ use borrow.Author.Tests.{ne-eqb}
 use lib.ListN.{length, take, drop, length-drop}
 use lib.Seq.{paste, length-paste, length-take-le, drop-at, take-at}
 use Rattle.opcode.specs.Options.{isRead}
-use Rattle.packet.specs.Frame.{headerOf, opcodeOf, dataOf}
+use Rattle.packet.specs.Frame.{headerOf}
 use Rattle.controller.specs.State.{State}
 use Rattle.controller.specs.Commands.{written, blockAfter, applyBlock, applyLive}
 use Rattle.controller.specs.Step.{step}

@@ -23,12 +23,12 @@ use Rattle.opcode.proofs.Accepts.Fields.{All, takes-within}
 use Rattle.opcode.proofs.Accepts.Reads.{silent-read}
 use Rattle.opcode.proofs.Accepts.Writes.{silent-write}
 use Rattle.packet.specs.Frame.{headerOf, opcodeOf, place, fields, dataSize, dataOf}
-use Rattle.packet.specs.Points.{startOf, pointsOf, countOf}
+use Rattle.packet.specs.Points.{startOf, countOf}
 use Rattle.packet.specs.Reading.{Answer, refusals, refusedBy, answered, reading}
 use Rattle.packet.proofs.Frames.{standing}
 use Rattle.settings.specs.Layout.{columnsAt, rowsAt, stagedShape, enable, liveShape, smoothTable}
 use Rattle.settings.specs.Ranges.{right, fieldsOf, pictureFields, deviceFields, shapeRight, settingsRight}
-use Rattle.controller.specs.Commands.{runsPast, gainsWords}
+use Rattle.controller.specs.Commands.{runsPast}
 use Rattle.controller.specs.Step.{reads, readAndPlaced, decision}
 use Rattle.controller.specs.Granted.{PointsWrite, GainsWrite}
 

@@ -2,15 +2,14 @@
 ghost use mathlib.Core.Path.{_≡_};
 ghost use mathlib.Core.Bool.{true, false, not, _&&_};
 ghost use mathlib.Core.List.{[], _∷_, _++_};
-ghost use Prim.Native.Nat.{ℕ, _+_, _-_, _*_, _%_, _≤_, _<_, min};
+ghost use Prim.Native.Nat.{ℕ, _+_, _-_, _*_, _≤_, _<_, min};
 ghost use lib.ListN.{length, take, drop, getD, replicate};
 ghost use lib.Seq.{sets};
 ghost use lib.Dec.{eqb, leb};
 ghost use Rattle.wire.specs.First.{first};
 ghost use Rattle.wire.specs.Buffers.{over};
 ghost use Rattle.upload.specs.Cost.{differs, best, least, rooms, more};
-ghost use Rattle.upload.specs.Plan.{planOf, planNumbers, packetFor, batchOf};
-ghost use Rattle.upload.specs.Parts.{part};
+ghost use Rattle.upload.specs.Plan.{planOf, planNumbers, batchOf};
 ghost use Rattle.upload.specs.Planning.{sheets, pointsWrong, planOut, roomOf, Planned};
 
 // A refusal's number or 0, how many packets the plan has, and how many bytes the batch.
@@ -201,24 +200,6 @@ fn put_part(plan: &mut [u16], p: usize, start: usize, count: usize)
     plan[2 * p + 1] = count as u16;
 }
 
-// One packet of the batch: header, opcode, length, start and the points.
-fn put_packet(batch: &mut [u8], at: usize, wanted: &[u16], start: usize, count: usize)
-    requires { ⌜
-        (at + (6 + 4 * count) ≤ length (now batch))
-        × (1 ≤ count)
-        × (count ≤ 126)
-        × (2 * (start + count) ≤ length (now wanted))
-        × (start < 65536)
-        × (length (now wanted) % 2 ≡ 0)
-        ⌝ }
-    ensures { λ _. ⌜ now (batch .exit) ≡ sets (now (batch .entry)) at (packetFor (now (wanted .entry)) (part start count)) ⌝ }
-{
-    wire::put_word(batch, at, 0x3414);
-    wire::put_word(batch, at + 2, 2 + 4 * count);
-    wire::put_word(batch, at + 4, start);
-    tables::words_out(&mut batch[at + 6..], wanted, 2 * start, 2 * count);
-}
-
 // The plan and its batch, from the filled room.
 fn write_plan(
     held: &[u16],
@@ -253,9 +234,8 @@ fn write_plan(
             let most = span(n - (i + 1));
             let count = count_at(room, i, most);
             put_part(plan, packets, i, count);
-            put_packet(batch, bytes, wanted, i, count);
+            bytes = batch::put_packet(batch, bytes, wanted, i, count);
             packets += 1;
-            bytes += 6 + 4 * count;
             i += count;
         } else {
             i += 1;

@@ -1,14 +1,14 @@
 -- What stores and copies of bytes do to the numbers that the bytes hold.
 use Prim.Native.Nat.{ℕ, zero, suc, _+_, _-_, _*_, _/_, _%_, _≤_}
-use mathlib.Core.Path.{_≡_, refl, sym, _∙_}
+use mathlib.Core.Path.{_≡_, refl}
 use mathlib.Core.List.{List, [], _∷_, _++_}
 use native.Mathlib.Omega.{arith}
-use lib.ListN.{length, take, drop, set, replicate, length-take, length-drop}
-use lib.Seq.{sets, sets-eq, paste}
+use lib.ListN.{length, take, set, replicate, length-take}
+use lib.Seq.{sets}
 use Rattle.wire.specs.Numbers.{wordBytes}
 use Rattle.wire.specs.Tables.{pairs, words, bytes, longs}
 use Rattle.wire.proofs.Tables.{length-pairs, pairs-append, pairs-take, pairs-set}
-use Rattle.tables.proofs.Bytes.{Below, words-below, bytes-part}
+use Rattle.tables.proofs.Bytes.{Below, words-below}
 use Rattle.upload.specs.Cost.{differs}
 use Rattle.upload.specs.Judge.{MapOf}
 use Rattle.upload.proofs.Differs.{differs-long}
@@ -53,18 +53,6 @@ clear-longs s n l h e =
       pairs-take 65536 n (words s),
       pairs-zeros 65536 (1985 - n),
     )
-
--- Points copied as bytes.
-pub copy-points : (w : List ℕ) → length w % 4 ≡ 0 → Below 256 w → (start count : ℕ) → 4 * (start + count) ≤ length w
-    → (l : List ℕ) (at : ℕ) → at + 4 * count ≤ length l
-    → paste l at (drop (4 * start) w) (4 * count) ≡ sets l at (bytes (take (2 * count) (drop (2 * start) (words w))))
-copy-points w even small start count h l at room =
-    let s : 2 * (2 * start) ≡ 4 * start = omega arith in
-    let c : 2 * (2 * count) ≡ 4 * count = omega arith in
-    let pts : List ℕ = take (4 * count) (drop (4 * start) w) in
-    let long : length pts ≡ 4 * count = simp (length-take, length-drop) (omega arith) in
-    rw (bytes-part w (omega arith) small (2 * start) (2 * count), s, c)
-    (sym (sets-eq pts l at (omega arith) ∙ rw long))
 
 -- A map's bytes.
 pub map-words : (n : ℕ) (w : List ℕ) → length w ≡ 4 * n → Below 256 w → MapOf n (words w)

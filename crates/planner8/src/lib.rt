@@ -3,14 +3,13 @@
 ghost use mathlib.Core.Path.{_≡_};
 ghost use mathlib.Core.Bool.{false};
 ghost use mathlib.Core.List.{[], _∷_, _++_};
-ghost use Prim.Native.Nat.{ℕ, _+_, _-_, _*_, _%_, _≤_, _<_};
+ghost use Prim.Native.Nat.{ℕ, _+_, _-_, _*_, _≤_, _<_};
 ghost use lib.ListN.{length, take, drop, getD, set, replicate};
 ghost use lib.Seq.{sets};
 ghost use Rattle.wire.specs.Buffers.{over};
 ghost use Rattle.wire.specs.Tables.{words, longs};
 ghost use Rattle.upload.specs.Cost.{differs, best, least, rooms, more};
-ghost use Rattle.upload.specs.Plan.{planOf, planNumbers, packetFor, batchOf};
-ghost use Rattle.upload.specs.Parts.{part};
+ghost use Rattle.upload.specs.Plan.{planOf, planNumbers, batchOf};
 ghost use Rattle.upload.specs.Planning.{sheets, planOut, roomOf, PlannedBytes};
 use planner16::Answer;
 use planner16::Lengths;
@@ -169,24 +168,6 @@ fn put_part(plan: &mut [u8], p: usize, start: usize, count: usize)
     wire::put_word(plan, 4 * p + 2, count);
 }
 
-// One packet of the batch: header, opcode, length, start and the points.
-fn put_packet(batch: &mut [u8], at: usize, wanted: &[u8], start: usize, count: usize)
-    requires { ⌜
-        (at + (6 + 4 * count) ≤ length (now batch))
-        × (1 ≤ count)
-        × (count ≤ 126)
-        × (4 * (start + count) ≤ length (now wanted))
-        × (start < 65536)
-        × (length (now wanted) % 4 ≡ 0)
-        ⌝ }
-    ensures { λ _. ⌜ now (batch .exit) ≡ sets (now (batch .entry)) at (packetFor (words (now (wanted .entry))) (part start count)) ⌝ }
-{
-    wire::put_word(batch, at, 0x3414);
-    wire::put_word(batch, at + 2, 2 + 4 * count);
-    wire::put_word(batch, at + 4, start);
-    wire::copy(batch, at + 6, wanted, 4 * start, 4 * count);
-}
-
 // The plan and its batch, from the filled room.
 fn write_plan(
     held: &[u8],
@@ -222,9 +203,8 @@ fn write_plan(
             let most = planner16::span(n - (i + 1));
             let count = count_at(room, i, most);
             put_part(plan, packets, i, count);
-            put_packet(batch, bytes, wanted, i, count);
+            bytes = batch::put_packet_bytes(batch, bytes, wanted, i, count);
             packets += 1;
-            bytes += 6 + 4 * count;
             i += count;
         } else {
             i += 1;

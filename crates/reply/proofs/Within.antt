@@ -8,7 +8,7 @@ use borrow.Author.Tests.{ltb-false, eqb-true}
 use lib.ListN.{length}
 use lib.Dec.{ltb, eqb}
 use Rattle.wire.specs.First.{first}
-use Rattle.reply.specs.Reading.{sumSize, replyRefusals, replyAnswered, replyReading}
+use Rattle.reply.specs.Reading.{replyRefusals, replyAnswered, replyReading}
 
 -- The second test of a list that gives 0 is false.
 second : (a b : Bool) (k : ℕ) → cond a 2 (cond b 3 k) ≡ 0 → b ≡ false

@@ -1,7 +1,7 @@
 -- "The batch is the plan's packets back to back, header 14h, with wanted's points": a part's packet byte by byte; and that every number of the
 -- batch is a byte.
 use Prim.Native.Nat.{ℕ, zero, suc, _+_, _*_, _/_, _%_, _≤_, _<_}
-use mathlib.Core.Path.{_≡_, refl, ap, _∙_}
+use mathlib.Core.Path.{_≡_, ap}
 use mathlib.Core.List.{List, [], _∷_, _++_, append-nil, map}
 use native.Mathlib.Omega.{arith}
 use lib.ListN.{length, take, drop, getD, length-take, length-drop}
@@ -10,7 +10,7 @@ use lib.Dec.{lit<}
 use Rattle.wire.specs.Tables.{bytes}
 use Rattle.wire.proofs.Tables.{length-halves, halves-below}
 use Rattle.packet.specs.Making.{packetOf}
-use Rattle.upload.specs.Plan.{Part, planOf, packetFor, packetsOf, joined, batchOf}
+use Rattle.upload.specs.Plan.{Part, packetFor, packetsOf, joined, batchOf}
 use Rattle.upload.specs.Judge.{MapOf}
 use Rattle.upload.specs.Parts.{Fits, Rising, none, next}
 use Rattle.upload.proofs.Lists.{plan-rising}

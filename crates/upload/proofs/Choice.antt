@@ -17,7 +17,7 @@ use Rattle.upload.specs.Judge.{mapsAfter, Turns, MapOf}
 use Rattle.upload.specs.Parts.{part, Rising, none, next, counts, Less, here, later, Uploads, Chosen}
 use Rattle.upload.proofs.Covers.{Covers, done, inside, skip, begin, First, first, rising-from, covers-least}
 use Rattle.upload.proofs.Differs.{differs-long, differs-self}
-use Rattle.upload.proofs.Lists.{part-after, demand3, plan-covers, plan-rising, plan-cost}
+use Rattle.upload.proofs.Lists.{part-after, demand3, plan-rising, plan-cost}
 
 -- Points before all parts stay as they are.
 untouched : (n : ℕ) (w : List ℕ) → length w ≡ 2 * n → {i : ℕ} {ps : List Part} → Rising n i ps → (m : List ℕ) → length m ≡ 2 * n → (j : ℕ) → j < i

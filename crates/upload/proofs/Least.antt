@@ -19,7 +19,7 @@ unfolding rooms
 length-rooms [] = refl
 length-rooms (d ∷ ds) = ap suc (length-rooms ds)
 
--- "working room holds at each index i below N the least bytes for the points from i on".
+-- It is the number at the front of the room for the points from there on; RoomMeans says what that is.
 pub room-at : (ds : List Bool) (i : ℕ) → i ≤ length ds → roomAt ds i ≡ best 0 (rooms (drop i ds))
 unfolding best rooms
 room-at [] zero h = refl

@@ -6,7 +6,7 @@ use mathlib.Core.Bool.{Bool, not, _&&_}
 use mathlib.Core.List.{List, [], _∷_}
 use native.Mathlib.Omega.{arith}
 use borrow.Author.Tests.{eq-eqb, ne-eqb, le-leb, le-ltb, eqb-false}
-use lib.ListN.{length}
+use lib.ListN.{length, length-map}
 use lib.Dec.{eqb, leb}
 use Rattle.wire.specs.First.{first}
 use Rattle.wire.specs.Buffers.{over}
@@ -14,7 +14,7 @@ use Rattle.wire.specs.Tables.{words, bytes, longs, longBytes}
 use Rattle.wire.proofs.Laws.{take-over}
 use Rattle.wire.proofs.Tables.{length-pairs}
 use Rattle.opcode.proofs.Accepts.Tests.{told, first-silent, or-left}
-use Rattle.upload.specs.Plan.{packetsOf, batchOf}
+use Rattle.upload.specs.Plan.{planOf, packetFor, packetsOf, batchOf}
 use Rattle.upload.specs.Judge.{MapOf}
 use Rattle.upload.specs.Planning.{Sheets, sheets, sheetsIn, pointsWrong, planRefusals, bytePlanRefusals, planOut, roomOf, planned, plannedBytes, Fewest, Planned, PlannedBytes}
 use Rattle.upload.proofs.Lists.{demand3, batch-cost, plan-bound}
@@ -80,12 +80,13 @@ batch-short n held wanted few h w = omega (arith, batch-cost n held wanted (h .l
 
 -- Demand 3 of the batch's own length.
 pub fewest : (n : ℕ) (held wanted batch : List ℕ) → MapOf n held → MapOf n wanted
-    → Fewest n held wanted (length (batchOf held wanted)) (over (batchOf held wanted) batch)
-unfolding batchOf
+    → Fewest n held wanted (length (planOf held wanted)) (length (batchOf held wanted)) (over (batchOf held wanted) batch)
+unfolding packetsOf batchOf
 fewest n held wanted batch h w =
     let d = demand3 n held wanted h w in
     record {
       packets = packetsOf held wanted;
+      number = length-map (planOf held wanted) (packetFor wanted);
       back-to-back = sym (take-over (batchOf held wanted) batch);
       accepted = d .accepted;
       turns = d .turns;
@@ -114,7 +115,7 @@ unfolding planned
 done n held wanted s e h w r t =
     record {
       outcome = rw (e, t .packets-are, t .bytes-are, t .plan-is, t .batch-is, r);
-      fewest = λ z. rw (t .bytes-are, t .batch-is) (fewest n held wanted (s .batch) h w);
+      fewest = λ z. rw (t .packets-are, t .bytes-are, t .batch-is) (fewest n held wanted (s .batch) h w);
     }
 
 -- On bytes: the numbers that they hold are planned as above, and the bytes are those of the numbers.

@@ -55,7 +55,7 @@ pub rooms-behind : (j : ℕ) (ds : List Bool) (z : List ℕ) → j ≤ length ds
 rooms-behind j ds z h = drop-append-le j (rooms ds) z (omega (arith, length-rooms ds)) ∙ rw (rooms-drop j ds h)
 
 -- Its numbers are small.
-zeros : (m k : ℕ) → _≡_ {A = ℕ} (getD (replicate m 0) k 0) 0
+pub zeros : (m k : ℕ) → _≡_ {A = ℕ} (getD (replicate m 0) k 0) 0
 zeros zero k = refl
 zeros (suc m) zero = refl
 zeros (suc m) (suc k) = zeros m k

@@ -1,7 +1,7 @@
 -- The walk over the points where planning does it: maps of n points, a filled room, and a plan and a batch that are long enough. At a point that
 -- differs: what the search for the count asks, where the packet goes, and one turn of the walk.
 use Prim.Native.Nat.{ℕ, _+_, _-_, _*_, _≤_, _<_, min}
-use mathlib.Core.Path.{_≡_, sym, ap, _∙_}
+use mathlib.Core.Path.{_≡_, sym, ap, subst, _∙_}
 use mathlib.Core.Bool.{true, false}
 use mathlib.Core.List.{List, [], _∷_, _++_}
 use native.Mathlib.Omega.{arith}
@@ -80,10 +80,13 @@ module _ {n : ℕ} {held wanted plan₀ room batch₀ : List ℕ} (s : Site n he
               within = fits .within;
             }
 
-        pub site-turn : {plan′ batch′ : List ℕ} → plan′ ≡ sets plan (2 * packets) (i ∷ count ∷ [])
-            → batch′ ≡ sets batch size (packetFor wanted (part i count))
-            → Walking n wanted (differs held wanted) plan₀ batch₀ plan′ batch′ (packets + 1) (size + (6 + 4 * count)) (i + count)
-        site-turn g h = walk-part all inside t d counted (s .wanted-map .long) g h
+        -- The packet is in the plan and behind what was filled of the batch.
+        pub site-turn : {plan′ batch′ : List ℕ} {filled : ℕ} → plan′ ≡ sets plan (2 * packets) (i ∷ count ∷ [])
+            → (filled ≡ size + (6 + 4 * count)) × (batch′ ≡ sets batch size (packetFor wanted (part i count)))
+            → Walking n wanted (differs held wanted) plan₀ batch₀ plan′ batch′ (packets + 1) filled (i + count)
+        site-turn {plan′} {batch′} g h =
+            subst (λ (m : ℕ). Walking n wanted (differs held wanted) plan₀ batch₀ plan′ batch′ (packets + 1) m (i + count)) (sym (h .0))
+            (walk-part all inside t d counted (s .wanted-map .long) g (h .1))
 
   pub site-done : {plan batch : List ℕ} {packets size i : ℕ} → n ≤ i
       → Walking n wanted (differs held wanted) plan₀ batch₀ plan batch packets size i → Walked held wanted plan₀ batch₀ plan batch packets size

@@ -1,16 +1,15 @@
 -- The loop that walks the points and writes plan and batch: a point that does not differ is passed, one that does opens a packet. What is written
 -- are the parts so far, and the parts from the point on are still to come.
-use Prim.Native.Nat.{ℕ, zero, suc, _+_, _-_, _*_, _/_, _%_, _≤_, _<_}
+use Prim.Native.Nat.{ℕ, zero, suc, _+_, _-_, _*_, _≤_, _<_}
 use mathlib.Core.Path.{_≡_, refl, sym, ap, _∙_}
 use mathlib.Core.Bool.{Bool, true, false, not, _&&_}
 use mathlib.Core.List.{List, [], _∷_, _++_, append-assoc, append-nil, map}
 use native.Mathlib.Nat.{add-zero}
 use native.Mathlib.Numerals.{add-one}
 use native.Mathlib.Omega.{arith}
-use lib.ListN.{length, take, drop, getD, length-append, length-drop, drop-of-length-le}
-use lib.Seq.{take-all, drop-cons, drop-drop, sets, sets-eq}
+use lib.ListN.{length, drop, getD, length-append, length-drop, drop-of-length-le}
+use lib.Seq.{drop-cons, drop-drop, sets}
 use lib.Dec.{eqb}
-use Rattle.wire.specs.Numbers.{wordBytes}
 use Rattle.wire.specs.Tables.{bytes}
 use Rattle.wire.specs.Buffers.{over}
 use Rattle.packet.proofs.Stores.{sets-sets, sets-over}
@@ -19,7 +18,6 @@ use Rattle.upload.specs.Plan.{Part, planFrom, planOf, planNumbers, cost,
 use Rattle.upload.specs.Parts.{part, Fits}
 use Rattle.upload.proofs.Least.{least-count}
 use Rattle.upload.proofs.Reading.{meant}
-use Rattle.upload.proofs.Bytes.{packet-form}
 
 -- A point differs if one of its two numbers does.
 pub differs-at : (h w : List ℕ) (i : ℕ) → 2 * i + 1 < length h → 2 * i + 1 < length w
@@ -87,40 +85,6 @@ cost-append : (ps qs : List Part) → cost (ps ++ qs) ≡ cost ps + cost qs
 unfolding cost
 cost-append [] qs = omega arith
 cost-append (p ∷ ps) qs = omega (arith, cost-append ps qs)
-
--- A packet's four stores: header and opcode, length, start, points.
-pub packet-stores : (w : List ℕ) (start count : ℕ) → length w % 2 ≡ 0 → 1 ≤ count → count ≤ 126 → 2 * (start + count) ≤ length w
-    → (l : List ℕ) (at : ℕ) {b₁ b₂ b₃ b₄ : List ℕ} → b₁ ≡ sets l at (wordBytes 0x3414) → b₂ ≡ sets b₁ (at + 2) (wordBytes (2 + 4 * count))
-    → b₃ ≡ sets b₂ (at + 4) (wordBytes start) → b₄ ≡ sets b₃ (at + 6) (bytes (take (2 * count) (drop (2 * start) w)))
-    → b₄ ≡ sets l at (packetFor w (part start count))
-packet-stores w start count even some few within l at e₁ e₂ e₃ e₄ =
-    let fits : Fits (length w / 2) (part start count) = record { some = some; few = few; within = omega arith } in
-    let pts : List ℕ = bytes (take (2 * count) (drop (2 * start) w)) in
-    let head : List ℕ = wordBytes 0x3414 ++ wordBytes (2 + 4 * count) in
-    rw (
-      e₄,
-      e₃,
-      e₂,
-      e₁,
-      sets-sets l at (at + 2) (wordBytes 0x3414) (wordBytes (2 + 4 * count)) refl,
-      sets-sets l at (at + 4) head (wordBytes start) refl,
-      sets-sets l at (at + 6) (head ++ wordBytes start) pts refl,
-      packet-form (length w / 2) w (part start count) (omega arith) fits,
-    )
-
--- A list over the start of the part of a buffer from a place on is a run of stores.
-pub part-over : (l s : List ℕ) (at : ℕ) → at + length s ≤ length l
-    → take at l ++ (over s (take (length l - at) (drop at l)) ++ drop (length l - at) (drop at l)) ≡ sets l at s
-unfolding over
-part-over l s at h =
-    rw (
-      take-all (length l - at) (drop at l) (rw length-drop (omega arith)),
-      drop-of-length-le (drop at l) {i = length l - at} (rw length-drop (omega arith)),
-      append-nil,
-      drop-drop,
-      sets-eq s l at h,
-      append-assoc,
-    )
 
 -- What stands in plan and batch at point i.
 pub record Walking (n : ℕ) (w : List ℕ) (ds : List Bool) (plan₀ batch₀ plan batch : List ℕ) (packets size i : ℕ) : Type 0 where

@@ -1,6 +1,6 @@
 -- Document 01, "Upload plan": the least bytes for what is left of a map. A packet of count points costs 6 + 4 × count bytes, count 1-126.
 use Prim.Native.Nat.{ℕ, zero, suc, _+_, min}
-use mathlib.Core.Bool.{Bool, true, false, not, cond, _&&_}
+use mathlib.Core.Bool.{Bool, not, cond, _&&_}
 use mathlib.Core.List.{List, [], _∷_}
 use lib.Dec.{eqb, leb}
 
@@ -23,10 +23,14 @@ best (suc k) (x ∷ r) = min x (4 + best k r)
 abbrev pub least : Bool → List ℕ → ℕ
 least d r = cond d (10 + best 125 r) (best 0 r)
 
+-- A room with one point more in front. The room is an argument here, so that `rooms` names it once.
+abbrev pub push : Bool → List ℕ → List ℕ
+push d r = least d r ∷ r
+
 -- "working room holds at each index i below N the least bytes for the points from i on": N + 1 numbers, the last one 0.
 unfoldable pub rooms : List Bool → List ℕ
 rooms [] = 0 ∷ []
-rooms (d ∷ ds) = least d (rooms ds) ∷ rooms ds
+rooms (d ∷ ds) = push d (rooms ds)
 
 -- How many points more the open packet takes, of at most k: the smallest number that costs least.
 unfoldable pub more : ℕ → List ℕ → ℕ

@@ -2,7 +2,7 @@
 use Prim.Native.Nat.{ℕ, zero, suc, _+_, _*_}
 use mathlib.Core.Bool.{Bool, true, false}
 use mathlib.Core.List.{List, [], _∷_, _++_, map}
-use lib.ListN.{length, take, drop}
+use lib.ListN.{take, drop}
 use Rattle.wire.specs.Numbers.{wordBytes}
 use Rattle.wire.specs.Tables.{bytes}
 use Rattle.packet.specs.Making.{packetOf}

@@ -2,11 +2,11 @@
 -- wanted isn't 2N long, the plan isn't 3,968 16-bit numbers, working room isn't 1,985 numbers of 32 bits, or the batch buffer is under 8,032
 -- bytes; nothing is changed. After success, plan and batch beyond their used parts are unchanged, and working room holds at each index i below
 -- N the least bytes for the points from i on, and 0 from N on."
-use Prim.Native.Nat.{ℕ, _+_, _-_, _*_, _≤_}
+use Prim.Native.Nat.{ℕ, _+_, _-_, _*_, _≤_, _<_}
 use mathlib.Core.Path.{_≡_}
 use mathlib.Core.Bool.{Bool, cond, not, _&&_, _||_}
 use mathlib.Core.List.{List, [], _∷_, _++_}
-use lib.ListN.{length, take, replicate}
+use lib.ListN.{length, take, drop, getD, replicate}
 use lib.Dec.{eqb, leb, ltb}
 use Rattle.wire.specs.First.{first}
 use Rattle.wire.specs.Buffers.{over}
@@ -55,6 +55,21 @@ planOut status packets bytes s = record { status = status; packets = packets; by
 abbrev pub roomOf : ℕ → List ℕ → List ℕ → List ℕ
 roomOf n held wanted = rooms (differs held wanted) ++ replicate (1984 - n) 0
 
+-- "the least bytes for the points from i on", which are taken as a map of their own: the bytes of the batch for them. Some list of packets that turns
+-- these points of held into those of wanted has just so many bytes, and every such list has at least as many.
+pub record LeastFrom (n : ℕ) (held wanted : List ℕ) (i number : ℕ) : Type 0 where
+  pub batch : number ≡ length (batchOf (drop (2 * i) held) (drop (2 * i) wanted))
+  pub packets : List (List ℕ)
+  pub turns : Turns (n - i) (drop (2 * i) held) (drop (2 * i) wanted) packets
+  pub total : bytesOf packets ≡ number
+  pub least : (ps : List (List ℕ)) → Turns (n - i) (drop (2 * i) held) (drop (2 * i) wanted) ps → number ≤ bytesOf ps
+
+-- "working room holds at each index i below N the least bytes for the points from i on, and 0 from N on." It holds 1,985 numbers.
+pub record RoomMeans (n : ℕ) (held wanted room : List ℕ) : Type 0 where
+  pub long : n ≤ 1984 → length room ≡ 1985
+  pub below : (i : ℕ) → i ≤ n → LeastFrom n held wanted i (getD room i 0)
+  pub beyond : (i : ℕ) → n ≤ i → i < 1985 → getD room i 0 ≡ 0
+
 abbrev pub plannedBy : ℕ → ℕ → List ℕ → List ℕ → Sheets → PlanOut
 plannedBy number n held wanted s =
     cond (eqb number 0)
@@ -65,10 +80,12 @@ plannedBy number n held wanted s =
 unfoldable pub planned : ℕ → List ℕ → List ℕ → Sheets → PlanOut
 planned n held wanted s = plannedBy (first (planRefusals n held wanted s)) n held wanted s
 
--- Demand 3 of an answer: the first so many bytes of the batch are packets back to back that turn held into wanted, all accepted, and every list
--- of packets that turns held into wanted has at least as many bytes.
-pub record Fewest (n : ℕ) (held wanted : List ℕ) (count : ℕ) (batch : List ℕ) : Type 0 where
+-- Demand 3 of an answer: the first so many bytes of the batch are packets back to back, as many as answered, that turn held into wanted, all
+-- accepted, and every list of packets that turns held into wanted has at least as many bytes.
+pub record Fewest (n : ℕ) (held wanted : List ℕ) (many count : ℕ) (batch : List ℕ) : Type 0 where
   pub packets : List (List ℕ)
+  -- "The answer gives the number of packets".
+  pub number : length packets ≡ many
   pub back-to-back : joined packets ≡ take count batch
   pub accepted : AllAccepted n packets
   pub turns : Turns n held wanted packets
@@ -78,7 +95,7 @@ pub record Fewest (n : ℕ) (held wanted : List ℕ) (count : ℕ) (batch : List
 -- The promise of planning: its answer and every lent list, and demand 3 of the byte count answered.
 pub record Planned (n : ℕ) (held wanted : List ℕ) (before : Sheets) (o : PlanOut) : Type 0 where
   pub outcome : o ≡ planned n held wanted before
-  pub fewest : o .status ≡ 0 → Fewest n held wanted (o .bytes) (o .left .batch)
+  pub fewest : o .status ≡ 0 → Fewest n held wanted (o .packets) (o .bytes) (o .left .batch)
 
 -- ---- Lists lent as bytes: "the answers are those of the entries on wider numbers".
 
@@ -110,4 +127,4 @@ plannedBytes n held wanted s =
 
 pub record PlannedBytes (n : ℕ) (held wanted : List ℕ) (before : Sheets) (o : PlanOut) : Type 0 where
   pub outcome : o ≡ plannedBytes n held wanted before
-  pub fewest : o .status ≡ 0 → Fewest n (words held) (words wanted) (o .bytes) (o .left .batch)
+  pub fewest : o .status ≡ 0 → Fewest n (words held) (words wanted) (o .packets) (o .bytes) (o .left .batch)

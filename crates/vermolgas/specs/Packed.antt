@@ -35,12 +35,12 @@ packedOut answer l reply = record { answer = answer; lent = l; reply = reply }
 abbrev pub packedStep : LentOut → PackedOut
 packedStep o = packedOut (o .status + 256 * o .size) (o .lent) (o .reply)
 
--- Planning: the refusal in bits 0-7, the number of packets from 8 on, the batch's bytes from 32 on.
+-- Planning: the refusal in bits 0-7, the number of packets in 8-31, the batch's bytes from 32 on.
 abbrev pub packedPlan : PlanOut → ℕ
 packedPlan o = o .status + 256 * o .packets + 4294967296 * o .bytes
 
--- The promise of planning for C: the answer and every lent list, and demand 3 of the byte count answered.
+-- The promise of planning for C: the answer and every lent list, and demand 3 of the packets and the byte count that C reads in it.
 pub record PackedPlan (n : ℕ) (held wanted : List ℕ) (before : Sheets) (answer : ℕ) (left : Sheets) : Type 0 where
   pub packed : answer ≡ packedPlan (plannedBytes n held wanted before)
   pub lists : left ≡ plannedBytes n held wanted before .left
-  pub fewest : answer % 256 ≡ 0 → Fewest n (words held) (words wanted) (answer / 4294967296) (left .batch)
+  pub fewest : answer % 256 ≡ 0 → Fewest n (words held) (words wanted) (answer / 256 % 16777216) (answer / 4294967296) (left .batch)

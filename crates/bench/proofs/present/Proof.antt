@@ -1,6 +1,6 @@
 -- What reading gives lies within the packet, so the part that holds the data can be lent on.
 use Prim.Native.Nat.{_+_, _≤_}
-use mathlib.Core.Path.{_≡_, sym, subst}
+use mathlib.Core.Path.{sym, subst}
 use native.Mathlib.Omega.{arith}
 use lib.ListN.{length}
 use Rattle.packet.specs.Reading.{Answer, reading}

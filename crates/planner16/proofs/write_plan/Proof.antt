@@ -64,19 +64,10 @@ put-part-requires c κs =
 put-packet-requires : tie.Need-put-packet-requires Inv-loop μ-loop
 put-packet-requires c κs =
     let place = place (c .before .before .before .before .before) in
-    (place .in-batch, place .some, place .count-few, omega (arith, place .within, c .before .before .before .before .before .before .before .before .before .before .before .before .before .before .before .before .pre), omega arith, omega arith)
+    (place .in-batch, place .some, place .count-few, omega arith, (omega (arith, place .within, c .before .before .before .before .before .before .before .before .before .before .before .before .before .before .before .before .pre), omega arith))
 
 add-packets : tie.Need-add-packets Inv-loop μ-loop
 add-packets c = omega arith
-
-mul-bytes : tie.Need-mul-bytes Inv-loop μ-loop
-mul-bytes c = omega (arith, place (c .before .before .before .before .before .before .before .before) .count-few)
-
-add-bytes : tie.Need-add-bytes Inv-loop μ-loop
-add-bytes c = omega (arith, place (c .before .before .before .before .before .before .before .before) .count-few)
-
-add-bytes-2 : tie.Need-add-bytes-2 Inv-loop μ-loop
-add-bytes-2 c = omega (arith, place (c .before .before .before .before .before .before .before .before) .bytes-few)
 
 add-i : tie.Need-add-i Inv-loop μ-loop
 add-i c = omega (arith, place (c .before .before .before .before .before .before .before .before) .within)
@@ -133,9 +124,6 @@ write-plan-spec =
     put-part-requires
     put-packet-requires
     add-packets
-    mul-bytes
-    add-bytes
-    add-bytes-2
     add-i
     loop-less
     loop-again

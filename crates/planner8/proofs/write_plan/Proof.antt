@@ -68,22 +68,13 @@ put-part-requires c κs =
     let place = place (c .before) in
     (place .in-plan, omega arith, omega (arith, place .count-few))
 
-put-packet-requires : tie.Need-put-packet-requires Inv-loop μ-loop
-put-packet-requires c κs =
+put-packet-bytes-requires : tie.Need-put-packet-bytes-requires Inv-loop μ-loop
+put-packet-bytes-requires c κs =
     let place = place (c .before .before .before .before .before) in
-    (place .in-batch, place .some, place .count-few, omega (arith, place .within, c .before .before .before .before .before .before .before .before .before .before .before .before .before .before .before .before .pre), omega arith, omega arith)
+    (place .in-batch, place .some, place .count-few, omega arith, (omega (arith, place .within, c .before .before .before .before .before .before .before .before .before .before .before .before .before .before .before .before .pre), omega arith))
 
 add-packets : tie.Need-add-packets Inv-loop μ-loop
 add-packets c = omega arith
-
-mul-bytes : tie.Need-mul-bytes Inv-loop μ-loop
-mul-bytes c = omega (arith, place (c .before .before .before .before .before .before .before .before) .count-few)
-
-add-bytes : tie.Need-add-bytes Inv-loop μ-loop
-add-bytes c = omega (arith, place (c .before .before .before .before .before .before .before .before) .count-few)
-
-add-bytes-2 : tie.Need-add-bytes-2 Inv-loop μ-loop
-add-bytes-2 c = omega (arith, place (c .before .before .before .before .before .before .before .before) .bytes-few)
 
 add-i : tie.Need-add-i Inv-loop μ-loop
 add-i c = omega (arith, place (c .before .before .before .before .before .before .before .before) .within)
@@ -98,7 +89,7 @@ loop-again c =
     let differ = sym (c .before .before .before .before .before .before .before .before .before .before .before .differs-at .ensures) ∙ c .before .before .before .before .before .before .before .before .before .before .if1 .taken in (
       inv .0,
       site-turn (inv .0) (c .before .before .before .before .before .before .before .before .before .before .before .before .loop-test .taken) (inv .1) differ (c .before .before .before .before .before .before .before .before .before .span .ensures) (counted .count-at .ensures) (c .before .before .before .before .before .before .put-part .ensures)
-          (c .before .before .put-packet .ensures),
+          (c .before .before .put-packet-bytes .ensures),
       omega arith,
     )
 
@@ -139,11 +130,8 @@ write-plan-spec =
     span-requires
     count-at-requires
     put-part-requires
-    put-packet-requires
+    put-packet-bytes-requires
     add-packets
-    mul-bytes
-    add-bytes
-    add-bytes-2
     add-i
     loop-less
     loop-again

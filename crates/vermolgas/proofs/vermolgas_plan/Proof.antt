@@ -1,5 +1,5 @@
 -- Status, packets and bytes are packed side by side, and none of them is large, so each is what its bits say.
-use Prim.Native.Nat.{ℕ, _+_, _*_, _/_, _≤_}
+use Prim.Native.Nat.{_+_, _*_, _/_, _%_, _≤_}
 use mathlib.Core.Path.{_≡_, ap, subst, sym}
 use native.Mathlib.Omega.{arith}
 use borrow.Author.Needs.{needs}
@@ -48,11 +48,12 @@ returns c =
     let a = c .before .before .before .before .before .before .before .plan-bytes .result in
     let told = c .before .before .before .before .before .before .before .plan-bytes .ensures in
     let s = small c in
+    let packets : (a .status + 256 * a .packets + 4294967296 * a .bytes) / 256 % 16777216 ≡ a .packets = omega (arith, s) in
     let bytes : (a .status + 256 * a .packets + 4294967296 * a .bytes) / 4294967296 ≡ a .bytes = omega (arith, s) in
     record {
       packed = ap packedPlan (told .outcome);
       lists = ap (λ (o : PlanOut). o .left) (told .outcome);
-      fewest = λ z. rw bytes (told .fewest (omega arith));
+      fewest = λ z. rw (packets, bytes) (told .fewest (omega arith));
     }
 
 pub vermolgas-plan-spec : {M : Type 1} → statement M
