@@ -16,9 +16,10 @@ use Rattle.controller.specs.Commands.{writeSmooth, readSmooth, blockAfter, writ
 use Rattle.controller.specs.Step.{numberOf, replyTo, step}
 use Rattle.packet.specs.Making.{packetOf}
 use Rattle.upload.specs.Cost.{differs, best, rooms, more}
-use Rattle.upload.specs.Plan.{planFrom, planOf, cost, packetFor, packetsOf, joined, batchOf, planNumbers}
+use Rattle.upload.specs.Plan.{planFrom, planOf, packetFor, packetsOf, joined, batchOf, planNumbers}
+use Rattle.upload.specs.Planning.{planned}
 use Rattle.bench_table.specs.Table.{rows, allHold}
 
 pub rows-hold : T (allHold rows)
-unfolding total checksum over fault wordsAt riseFrom rise firstLarge commandOf judgement pointsSizeWrong gainsSizeWrong controlSizeWrong smoothSizeWrong sizeWrong gainsFault listsFault controlFault smoothFault valueFault replyBytes placeOf pictureFields deviceFields right shapeRight settingsRight resetShape resetBlock resetMap resetGains stopped writeGains readGains readPoints shapeBytes writeShape readShape applyBlock applyLive writeSmooth readSmooth blockAfter written blockBack dataBack runsPast numberOf replyTo step packetOf differs best rooms more planFrom planOf cost packetFor packetsOf joined batchOf planNumbers
+unfolding total checksum over fault wordsAt riseFrom rise firstLarge commandOf judgement pointsSizeWrong gainsSizeWrong controlSizeWrong smoothSizeWrong sizeWrong gainsFault listsFault controlFault smoothFault valueFault replyBytes placeOf pictureFields deviceFields right shapeRight settingsRight resetShape resetBlock resetMap resetGains stopped writeGains readGains readPoints shapeBytes writeShape readShape applyBlock applyLive writeSmooth readSmooth blockAfter written blockBack dataBack runsPast numberOf replyTo step packetOf differs best rooms more planFrom planOf packetFor packetsOf joined batchOf planNumbers planned
 rows-hold = tt

@@ -1,14 +1,15 @@
 -- Document 01, "Bench packets (hex)": "Proved together as a single table with a single statement: those marked *. Each starts from reset
 -- unless said." Each row of a packet: the packets before, the packet, the status, all bytes of the reply, and the whole state after. Each row
--- of a plan: held and wanted, the plan's starts and counts, and the batch.
-use Prim.Native.Nat.{ℕ}
+-- of a plan: the number of points, held and wanted, the whole answer, and all of the three lists that planning leaves.
+use Prim.Native.Nat.{ℕ, _+_}
 use mathlib.Core.Bool.{Bool, true, false, _&&_}
 use mathlib.Core.List.{List, [], _∷_, _++_}
 use lib.ListN.{length, drop, set, replicate}
 use lib.Dec.{eqb}
+use Rattle.settings.specs.Reset.{resetMap}
 use Rattle.controller.specs.State.{State, resetState}
 use Rattle.controller.specs.Step.{Out, step}
-use Rattle.upload.specs.Plan.{planOf, cost, batchOf, planNumbers}
+use Rattle.upload.specs.Planning.{Sheets, sheets, PlanOut, planned}
 
 pub record PacketRow : Type 0 where
   pub before : List (List ℕ)
@@ -18,10 +19,14 @@ pub record PacketRow : Type 0 where
   pub after : State
 
 pub record PlanRow : Type 0 where
+  pub n : ℕ
   pub held : List ℕ
   pub wanted : List ℕ
-  pub parts : List ℕ
+  pub status : ℕ
+  pub packets : ℕ
   pub bytes : ℕ
+  pub plan : List ℕ
+  pub room : List ℕ
   pub batch : List ℕ
 
 pub data Row : Type 0 where
@@ -32,10 +37,18 @@ pub data Row : Type 0 where
 abbrev pub buffer : List ℕ
 buffer = replicate 512 0xA5
 
+-- A plan, a working room and a batch buffer of such patterns.
+abbrev pub blank : Sheets
+blank = sheets (replicate 3968 0xA5A5) (replicate 1985 0xA5A5A5A5) (replicate 8032 0xA5)
+
 -- The state after packets taken one after another.
 abbrev pub stateOf : List (List ℕ) → State → State
 stateOf [] s = s
 stateOf (p ∷ ps) s = stateOf ps (step p s buffer .state)
+
+-- A map with one point changed, its two numbers from a place on.
+abbrev pub withNumbers : List ℕ → ℕ → ℕ → ℕ → List ℕ
+withNumbers map place x y = set (set map place x) (place + 1) y
 
 -- Reset, with one byte of the block, a staged point, or a gain changed.
 abbrev pub withSetting : ℕ → ℕ → State
@@ -51,7 +64,7 @@ abbrev pub withPoint : ℕ → ℕ → ℕ → State
 withPoint place x y =
     record {
       block = resetState .block;
-      staged = set (set (resetState .staged) place x) (Prim.Native.Nat._+_ place 1) y;
+      staged = withNumbers (resetState .staged) place x y;
       live = resetState .live;
       gains = resetState .gains;
     }
@@ -107,13 +120,18 @@ rows =
     -- * Points 0 and 3 differ: two, 20 bytes.
     ∷ plans
     (record {
-      held = 0 ∷ 0 ∷ 5 ∷ 6 ∷ 7 ∷ 8 ∷ 9 ∷ 0x10A ∷ [];
-      wanted = 1 ∷ 2 ∷ 5 ∷ 6 ∷ 7 ∷ 8 ∷ 9 ∷ 0x20B ∷ [];
-      parts = 0 ∷ 1 ∷ 3 ∷ 1 ∷ [];
+      n = 1984;
+      held = resetMap;
+      wanted = withNumbers (withNumbers resetMap 0 1 2) 6 9 0x20B;
+      status = 0;
+      packets = 2;
       bytes = 20;
+      plan = 0 ∷ 1 ∷ 3 ∷ 1 ∷ replicate 3964 0xA5A5;
+      room = 20 ∷ 10 ∷ 10 ∷ 10 ∷ replicate 1981 0;
       batch =
           0x14 ∷ 0x34 ∷ 0x06 ∷ 0x00 ∷ 0x00 ∷ 0x00 ∷ 0x01 ∷ 0x00 ∷ 0x02 ∷ 0x00
-          ∷ 0x14 ∷ 0x34 ∷ 0x06 ∷ 0x00 ∷ 0x03 ∷ 0x00 ∷ 0x09 ∷ 0x00 ∷ 0x0B ∷ 0x02 ∷ [];
+          ∷ 0x14 ∷ 0x34 ∷ 0x06 ∷ 0x00 ∷ 0x03 ∷ 0x00 ∷ 0x09 ∷ 0x00 ∷ 0x0B ∷ 0x02
+          ∷ replicate 8012 0xA5;
     })
     ∷ []
 
@@ -138,16 +156,19 @@ agrees r o =
     && sameList (o .reply) (r .reply ++ drop (length (r .reply)) buffer)
     && sameState (o .state) (r .after)
 
--- What planning gives is what the row says: starts and counts, the batch, and its bytes.
-abbrev pub plansAs : PlanRow → Bool
-plansAs r =
-    sameList (planNumbers (planOf (r .held) (r .wanted))) (r .parts)
-    && eqb (cost (planOf (r .held) (r .wanted))) (r .bytes)
-    && sameList (batchOf (r .held) (r .wanted)) (r .batch)
+-- What planning gave is what the row says.
+abbrev pub plansAs : PlanRow → PlanOut → Bool
+plansAs r o =
+    eqb (o .status) (r .status)
+    && eqb (o .packets) (r .packets)
+    && eqb (o .bytes) (r .bytes)
+    && sameList (o .left .plan) (r .plan)
+    && sameList (o .left .room) (r .room)
+    && sameList (o .left .batch) (r .batch)
 
 abbrev pub holds : Row → Bool
 holds (packets r) = agrees r (step (r .packet) (stateOf (r .before) resetState) buffer)
-holds (plans r) = plansAs r
+holds (plans r) = plansAs r (planned (r .n) (r .held) (r .wanted) blank)
 
 abbrev pub allHold : List Row → Bool
 allHold [] = true
