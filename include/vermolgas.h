@@ -27,7 +27,7 @@
 extern "C" {
 #endif
 
-/* Refusals, in the order in which they are tried. */
+/* Refusals, in the order in which vermolgas_packet tries them. */
 enum vermolgas_refusal {
     VERMOLGAS_ACCEPTED = 0,
     VERMOLGAS_REFUSED_LENT = 1,           /* a lent length is wrong, or a setting is out of range */

@@ -1,4 +1,4 @@
-// Reads each bench packet of document 01, says what it found, and makes the packet again from its reading.
+// Reads each bench packet of document 01, says what it found, and makes the packet again from its reading; then plans the uploads of its bench maps.
 use packet::Reading;
 
 fn main() {

@@ -1,4 +1,4 @@
-// The C entries (include/vermolgas.h): each calls the Rattle function of its name and packs the answer into a number.
+// The C entries (include/vermolgas.h): each calls the function that does its work and packs the answer into a number.
 use packet::Reading;
 use reply::ReplyReading;
 ghost use mathlib.Core.Path.{_≡_};
