@@ -10,13 +10,13 @@ ghost use Rattle.upload.specs.Parts.{part};
 ghost use Rattle.batch.specs.Writing.{headOf, headed, Lies};
 
 // The caller's buffer and how much of it is filled.
-pub struct Batch<'a> {
+struct Batch<'a> {
     pub buffer: &'a mut [u8],
     pub filled: usize,
 }
 
 // A batch of which so much is written.
-pub fn open<'a>(buffer: &'a mut [u8], filled: usize) -> Batch<'a>
+fn open<'a>(buffer: &'a mut [u8], filled: usize) -> Batch<'a>
     ensures { λ r. ⌜ (r .buffer ≡ buffer .entry) × (r .filled ≡ filled) ⌝ }
 {
     Batch {
@@ -26,7 +26,7 @@ pub fn open<'a>(buffer: &'a mut [u8], filled: usize) -> Batch<'a>
 }
 
 // Header and opcode, length, start: where the points go.
-pub fn head_at(buffer: &mut [u8], at: usize, start: usize, count: usize) -> usize
+fn head_at(buffer: &mut [u8], at: usize, start: usize, count: usize) -> usize
     requires { ⌜ (at + 6 ≤ length (now buffer)) × (start < 65536) × (count ≤ 126) ⌝ }
     ensures { λ r. ⌜ (r ≡ at + 6) × (now (buffer .exit) ≡ sets (now (buffer .entry)) at (headOf start count)) ⌝ }
 {
@@ -37,7 +37,7 @@ pub fn head_at(buffer: &mut [u8], at: usize, start: usize, count: usize) -> usiz
 }
 
 // The same behind what is filled.
-pub fn head<'a>(batch: Batch<'a>, start: usize, count: usize) -> Batch<'a>
+fn head<'a>(batch: Batch<'a>, start: usize, count: usize) -> Batch<'a>
     requires { ⌜ (batch .filled + 6 ≤ length (now (batch .buffer))) × (start < 65536) × (count ≤ 126) ⌝ }
     ensures { λ r. ⌜ r ≡ headed (batch .entry) start count ⌝ }
 {

@@ -6,6 +6,7 @@
 
 #[allow(dead_code, reason = "each program calls some of the entries")]
 mod library;
+mod measure;
 #[allow(dead_code, reason = "each program draws some kinds of numbers")]
 mod random;
 
@@ -14,13 +15,11 @@ use std::process::ExitCode;
 use std::time::Instant;
 
 use library::LIBRARY;
+use measure::{side_by_side, REPETITIONS};
 use random::Random;
 use twin::front_end::MAP_BYTES;
 use twin::planner::{self, Lent, BATCH_BYTES, PLAN_BYTES, ROOM_BYTES};
 use twin::settings::POINTS;
-
-/// Each measurement is repeated so often, and its median taken.
-const REPETITIONS: usize = 31;
 
 /// A repetition plans so often.
 const PLANS: usize = 96;
@@ -120,25 +119,11 @@ fn bytes(maps: &[Maps]) -> Option<f64> {
 
 /// Plans a second of the library and of the twin, and their ratio, each the median.
 fn compare(maps: &[Maps]) -> [f64; 3] {
-    let mut written = Written::new();
-    let mut figures = [const { Vec::new() }; 3];
-    for repetition in 0..=REPETITIONS {
-        // Turn about, so that what disturbs one disturbs the other.
-        let (of_library, of_twin) = if repetition % 2 == 0 {
-            let of_library = plans_a_second(library_plan, maps, &mut written);
-            (of_library, plans_a_second(twin_plan, maps, &mut written))
-        } else {
-            let of_twin = plans_a_second(twin_plan, maps, &mut written);
-            (plans_a_second(library_plan, maps, &mut written), of_twin)
-        };
-        // The first one warms up.
-        if repetition > 0 {
-            for (figures, figure) in figures.iter_mut().zip([of_library, of_twin, of_library / of_twin]) {
-                figures.push(figure);
-            }
-        }
-    }
-    figures.map(median)
+    let (mut library, mut twin) = (Written::new(), Written::new());
+    side_by_side(
+        || plans_a_second(library_plan, maps, &mut library),
+        || plans_a_second(twin_plan, maps, &mut twin),
+    )
 }
 
 fn plans_a_second(plan: Plan, maps: &[Maps], written: &mut Written) -> f64 {
@@ -147,9 +132,4 @@ fn plans_a_second(plan: Plan, maps: &[Maps], written: &mut Written) -> f64 {
         black_box(plan(black_box(maps), written));
     }
     PLANS as f64 / start.elapsed().as_secs_f64()
-}
-
-fn median(mut figures: Vec<f64>) -> f64 {
-    figures.sort_by(f64::total_cmp);
-    figures[figures.len() / 2]
 }

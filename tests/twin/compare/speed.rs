@@ -6,6 +6,7 @@
 mod generate;
 #[allow(dead_code, reason = "each program calls some of the entries")]
 mod library;
+mod measure;
 mod random;
 
 use std::hint::black_box;
@@ -13,14 +14,12 @@ use std::process::ExitCode;
 use std::time::Instant;
 
 use library::LIBRARY;
+use measure::{side_by_side, REPETITIONS};
 use random::Random;
 use twin::command::{Direction, Opcode};
 use twin::front_end::{self, Memory};
 use twin::packet::{self, Header, LONGEST};
 use twin::scripts::hex;
-
-/// Each measurement is repeated so often, and its median taken.
-const REPETITIONS: usize = 31;
 
 /// A repetition calls at least so often.
 const CALLS: usize = 20_000;
@@ -80,24 +79,11 @@ fn main() -> ExitCode {
 /// in different states.
 fn compare(packets: &[Option<&[u8]>]) -> Option<[f64; 3]> {
     let (mut library, mut twin) = (Memory::default(), Memory::default());
-    let mut figures = [const { Vec::new() }; 3];
-    for repetition in 0..=REPETITIONS {
-        // Turn about, so that what disturbs one disturbs the other.
-        let (of_library, of_twin) = if repetition % 2 == 0 {
-            let of_library = calls_a_second(library_call, packets, &mut library);
-            (of_library, calls_a_second(twin_call, packets, &mut twin))
-        } else {
-            let of_twin = calls_a_second(twin_call, packets, &mut twin);
-            (calls_a_second(library_call, packets, &mut library), of_twin)
-        };
-        // The first one warms up.
-        if repetition > 0 {
-            for (figures, figure) in figures.iter_mut().zip([of_library, of_twin, of_library / of_twin]) {
-                figures.push(figure);
-            }
-        }
-    }
-    (library == twin).then(|| figures.map(median))
+    let figures = side_by_side(
+        || calls_a_second(library_call, packets, &mut library),
+        || calls_a_second(twin_call, packets, &mut twin),
+    );
+    (library == twin).then_some(figures)
 }
 
 fn calls_a_second(call: Call, packets: &[Option<&[u8]>], memory: &mut Memory) -> f64 {
@@ -110,11 +96,6 @@ fn calls_a_second(call: Call, packets: &[Option<&[u8]>], memory: &mut Memory) ->
         }
     }
     (rounds * packets.len()) as f64 / start.elapsed().as_secs_f64()
-}
-
-fn median(mut figures: Vec<f64>) -> f64 {
-    figures.sort_by(f64::total_cmp);
-    figures[figures.len() / 2]
 }
 
 /// Reads and writes of all opcodes with any options, on a full map, one in sixteen damaged.
