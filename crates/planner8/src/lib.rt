@@ -4,7 +4,7 @@ ghost use mathlib.Core.Path.{_≡_};
 ghost use mathlib.Core.Bool.{false};
 ghost use mathlib.Core.List.{[], _∷_, _++_};
 ghost use Prim.Native.Nat.{ℕ, _+_, _-_, _*_, _≤_, _<_};
-ghost use lib.ListN.{length, take, drop, getD, set, replicate};
+ghost use lib.ListN.{length, drop, getD, set, replicate};
 ghost use lib.Seq.{sets};
 ghost use Rattle.wire.specs.Buffers.{over};
 ghost use Rattle.wire.specs.Tables.{words, longs};
@@ -104,19 +104,6 @@ fn least_at(held: &[u8], wanted: &[u8], room: &[u8], n: usize, i: usize) -> u32
     long_at(room, next)
 }
 
-// Zeros from a place on.
-fn clear(room: &mut [u8], from: usize)
-    requires { ⌜ from ≤ length (now room) ⌝ }
-    ensures { λ _. ⌜ now (room .exit) ≡ take from (now (room .entry)) ++ replicate (length (now (room .entry)) - from) 0 ⌝ }
-{
-    let n = room.len() - from;
-    let mut k = 0;
-    while k < n {
-        room[from + k] = 0;
-        k += 1;
-    }
-}
-
 // The working room, from the back.
 fn fill_room(held: &[u8], wanted: &[u8], room: &mut [u8], n: usize)
     requires { ⌜
@@ -127,7 +114,7 @@ fn fill_room(held: &[u8], wanted: &[u8], room: &mut [u8], n: usize)
         ⌝ }
     ensures { λ _. ⌜ longs (now (room .exit)) ≡ roomOf n (words (now (held .entry))) (words (now (wanted .entry))) ⌝ }
 {
-    clear(room, 4 * n);
+    tables::fill_bytes(&mut room[4 * n..], 0);
     let mut i = n;
     while 0 < i {
         i -= 1;

@@ -2,11 +2,12 @@
 use Prim.Native.Nat.{_-_}
 use mathlib.Core.Path.{_≡_}
 use native.Mathlib.Omega.{arith}
+use lib.Dec.{lit<}
 use lib.ListN.{length}
 use Rattle.wire.specs.Tables.{words, longs}
 use Rattle.upload.specs.Cost.{differs}
 use Rattle.upload.proofs.Rooms.{Filling, fill-start, fill-behind, fill-turn, fill-done}
-use Rattle.planner8.proofs.Places.{length-longs, clear-longs, words-differ}
+use Rattle.planner8.proofs.Places.{length-longs, part-even, clear-long, clear-same, clear-longs, words-differ}
 use Rattle.planner8.proofs.fill_room.Statement.{statement}
 use Rattle.planner8.proofs.fill_room.Tie as tie
 
@@ -16,11 +17,22 @@ Inv-loop held wanted room₀ n i₀ room i = Filling n (differs (words held) (wo
 abbrev μ-loop : tie.MeasureT-loop
 μ-loop held wanted room₀ n i₀ room i = i
 
-mul-clear : tie.Need-mul-clear Inv-loop μ-loop
-mul-clear c = omega arith
+mul-fill-bytes : tie.Need-mul-fill-bytes Inv-loop μ-loop
+mul-fill-bytes c = omega arith
 
-clear-requires : tie.Need-clear-requires Inv-loop μ-loop
-clear-requires c κs = omega arith
+sub-fill-bytes : tie.Need-sub-fill-bytes Inv-loop μ-loop
+sub-fill-bytes c = omega arith
+
+part-fill-bytes-start : tie.Need-part-fill-bytes-start Inv-loop μ-loop
+part-fill-bytes-start c = omega arith
+
+part-fill-bytes-end : tie.Need-part-fill-bytes-end Inv-loop μ-loop
+part-fill-bytes-end c = omega arith
+
+fill-bytes-requires : tie.Need-fill-bytes-requires Inv-loop μ-loop
+fill-bytes-requires c κs =
+    let start = c .before .before .before .before in
+    (lit< tt, part-even (start .args .room .now) (start .args .n) (start .pre .3) (start .pre .0))
 
 loop-holds : tie.Need-loop-holds Inv-loop μ-loop
 loop-holds c =
@@ -29,10 +41,9 @@ loop-holds c =
     let pre = at-start .pre in
     let all = words-differ (args .n) (args .held .now) (args .wanted .now) (pre .1) (pre .2) in
     let room = args .room .now in
-    let cleared = c .before .before .clear in (
-      fill-start (longs room) (pre .0) all (omega (arith, length-longs room)) (omega (arith, length-longs room, length-longs (cleared .last .0)))
-          (clear-longs room (args .n) (pre .3) (pre .0) (cleared .ensures)),
-      omega arith,
+    let zeros = c .before .before .fill-bytes .ensures in (
+      fill-start (longs room) (pre .0) all (omega (arith, length-longs room)) (clear-same room (args .n) (pre .3) (pre .0) zeros) (clear-longs room (args .n) (pre .3) (pre .0) zeros),
+      clear-long room (args .n) (pre .3) (pre .0) zeros,
     )
 
 sub-i : tie.Need-sub-i Inv-loop μ-loop
@@ -69,8 +80,11 @@ fill-room-spec =
     (tie.spec
     Inv-loop
     μ-loop
-    mul-clear
-    clear-requires
+    mul-fill-bytes
+    sub-fill-bytes
+    part-fill-bytes-start
+    part-fill-bytes-end
+    fill-bytes-requires
     loop-holds
     sub-i
     least-at-requires
