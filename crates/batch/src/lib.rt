@@ -2,12 +2,12 @@
 // written by a plain function on the buffer and the place.
 ghost use mathlib.Core.Path.{_≡_};
 ghost use Prim.Native.Nat.{_+_, _*_, _≤_, _<_};
-ghost use lib.ListN.{length, take, drop};
+ghost use lib.ListN.{length};
 ghost use lib.Seq.{sets};
-ghost use Rattle.wire.specs.Tables.{words, bytes};
+ghost use Rattle.wire.specs.Tables.{words};
 ghost use Rattle.upload.specs.Plan.{packetFor};
 ghost use Rattle.upload.specs.Parts.{part};
-ghost use Rattle.batch.specs.Writing.{headOf, headed, Lies};
+ghost use Rattle.batch.specs.Writing.{headOf, headed, pointsOf, pointed, Lies};
 
 // The caller's buffer and how much of it is filled.
 struct Batch<'a> {
@@ -52,27 +52,45 @@ fn head<'a>(batch: Batch<'a>, start: usize, count: usize) -> Batch<'a>
 // So many points of a map of 16-bit numbers: where the next packet goes.
 fn points_at(buffer: &mut [u8], at: usize, wanted: &[u16], start: usize, count: usize) -> usize
     requires { ⌜ (at + 4 * count ≤ length (now buffer)) × (count ≤ 126) × Lies 2 (now wanted) (start + count) ⌝ }
-    ensures { λ r.
-        ⌜
-        (r ≡ at + 4 * count)
-        × (now (buffer .exit) ≡ sets (now (buffer .entry)) at (bytes (take (2 * count) (drop (2 * start) (now (wanted .entry))))))
-        ⌝ }
+    ensures { λ r. ⌜ (r ≡ at + 4 * count) × (now (buffer .exit) ≡ sets (now (buffer .entry)) at (pointsOf (now (wanted .entry)) start count)) ⌝ }
 {
     tables::words_out(&mut buffer[at..], wanted, 2 * start, 2 * count);
     at + 4 * count
 }
 
-// The same of a map that is lent as bytes.
+// The same behind what is filled.
+fn points<'a, 'b>(batch: Batch<'a>, wanted: &'b [u16], start: usize, count: usize) -> Batch<'a>
+    requires { ⌜ (batch .filled + 4 * count ≤ length (now (batch .buffer))) × (count ≤ 126) × Lies 2 (now wanted) (start + count) ⌝ }
+    ensures { λ r. ⌜ r ≡ pointed (batch .entry) (now (wanted .entry)) start count ⌝ }
+{
+    let at = batch.filled;
+    let filled = points_at(&mut *batch.buffer, at, wanted, start, count);
+    Batch {
+        buffer: batch.buffer,
+        filled: filled,
+    }
+}
+
+// So many points of a map that is lent as bytes: where the next packet goes.
 fn bytes_at(buffer: &mut [u8], at: usize, wanted: &[u8], start: usize, count: usize) -> usize
     requires { ⌜ (at + 4 * count ≤ length (now buffer)) × (count ≤ 126) × Lies 4 (now wanted) (start + count) ⌝ }
-    ensures { λ r.
-        ⌜
-        (r ≡ at + 4 * count)
-        × (now (buffer .exit) ≡ sets (now (buffer .entry)) at (bytes (take (2 * count) (drop (2 * start) (words (now (wanted .entry)))))))
-        ⌝ }
+    ensures { λ r. ⌜ (r ≡ at + 4 * count) × (now (buffer .exit) ≡ sets (now (buffer .entry)) at (pointsOf (words (now (wanted .entry))) start count)) ⌝ }
 {
     wire::copy(buffer, at, wanted, 4 * start, 4 * count);
     at + 4 * count
+}
+
+// The same behind what is filled.
+fn bytes<'a, 'b>(batch: Batch<'a>, wanted: &'b [u8], start: usize, count: usize) -> Batch<'a>
+    requires { ⌜ (batch .filled + 4 * count ≤ length (now (batch .buffer))) × (count ≤ 126) × Lies 4 (now wanted) (start + count) ⌝ }
+    ensures { λ r. ⌜ r ≡ pointed (batch .entry) (words (now (wanted .entry))) start count ⌝ }
+{
+    let at = batch.filled;
+    let filled = bytes_at(&mut *batch.buffer, at, wanted, start, count);
+    Batch {
+        buffer: batch.buffer,
+        filled: filled,
+    }
 }
 
 // One packet behind what is filled: how much is filled then.
@@ -96,9 +114,13 @@ pub fn put_packet(
         × (now (buffer .exit) ≡ sets (now (buffer .entry)) filled (packetFor (now (wanted .entry)) (part start count)))
         ⌝ }
 {
-    let batch = head(open(buffer, filled), start, count);
-    let at = batch.filled;
-    points_at(&mut *batch.buffer, at, wanted, start, count)
+    let batch = points(
+        head(open(buffer, filled), start, count),
+        wanted,
+        start,
+        count,
+    );
+    batch.filled
 }
 
 // The same from a map that is lent as bytes.
@@ -122,7 +144,11 @@ pub fn put_packet_bytes(
         × (now (buffer .exit) ≡ sets (now (buffer .entry)) filled (packetFor (words (now (wanted .entry))) (part start count)))
         ⌝ }
 {
-    let batch = head(open(buffer, filled), start, count);
-    let at = batch.filled;
-    bytes_at(&mut *batch.buffer, at, wanted, start, count)
+    let batch = bytes(
+        head(open(buffer, filled), start, count),
+        wanted,
+        start,
+        count,
+    );
+    batch.filled
 }

@@ -181,6 +181,9 @@ plan-bound n held wanted h w =
     let all = differs-long n held wanted (h .long) (w .long) in
     omega (arith, plan-cost n held wanted (h .long) (w .long), best-bound 0 ((n + 125) / 126) (differs held wanted) (omega arith))
 
+pub batch-bound : (n : ℕ) (held wanted : List ℕ) → MapOf n held → MapOf n wanted → length (batchOf held wanted) ≤ 4 * n + 6 * ((n + 125) / 126)
+batch-bound n held wanted h w = omega (arith, batch-cost n held wanted (h .long) (w .long), plan-bound n held wanted h w)
+
 -- Equal maps give no packet.
 plan-none : (n i : ℕ) → planFrom i 0 (replicate n false) ≡ []
 unfolding planFrom

@@ -1,7 +1,7 @@
--- What planning promises, from what its code leaves: on a refusal nothing changes, and else demand 3 holds of the byte count answered. Once for lists
--- of numbers, and once for their bytes.
+-- What planning promises, from what its code leaves: on a refusal nothing changes; else demand 3 holds of the byte count answered, the plan is the one
+-- that document 01 chooses, and the room holds the least bytes. Once for lists of numbers, and once for their bytes.
 use Prim.Native.Nat.{ℕ, _*_, _≤_}
-use mathlib.Core.Path.{_≡_, sym}
+use mathlib.Core.Path.{_≡_, refl, sym}
 use mathlib.Core.Bool.{Bool, not, _&&_}
 use mathlib.Core.List.{List, [], _∷_}
 use native.Mathlib.Omega.{arith}
@@ -14,11 +14,13 @@ use Rattle.wire.specs.Tables.{words, bytes, longs, longBytes}
 use Rattle.wire.proofs.Laws.{take-over}
 use Rattle.wire.proofs.Tables.{length-pairs}
 use Rattle.opcode.proofs.Accepts.Tests.{told, first-silent, or-left}
-use Rattle.upload.specs.Plan.{planOf, packetFor, packetsOf, batchOf}
+use Rattle.upload.specs.Plan.{planOf, planNumbers, packetFor, packetsOf, batchOf}
 use Rattle.upload.specs.Judge.{MapOf}
-use Rattle.upload.specs.Planning.{Sheets, sheets, sheetsIn, pointsWrong, planRefusals, bytePlanRefusals, planOut, roomOf, planned, plannedBytes, Fewest, Planned, PlannedBytes}
-use Rattle.upload.proofs.Lists.{demand3, batch-cost, plan-bound}
-use Rattle.upload.proofs.Walk.{Walked}
+use Rattle.upload.specs.Planning.{Sheets, sheets, sheetsIn, pointsWrong, planRefusals, bytePlanRefusals, planOut, roomOf, planned, plannedBytes, Fewest, PlanChosen, Planned, PlannedBytes}
+use Rattle.upload.proofs.Lists.{demand3, batch-cost, batch-bound}
+use Rattle.upload.proofs.Choice.{plan-chosen, chosen-only}
+use Rattle.upload.proofs.RoomMeans.{room-means}
+use Rattle.upload.proofs.Walk.{length-numbers, Walked}
 
 -- The lengths that planning asks for, with so many numbers or bytes a point.
 pub record Fit (n each plans places : ℕ) (held wanted : List ℕ) (s : Sheets) : Type 0 where
@@ -76,7 +78,7 @@ module _ (n each plans places : ℕ) (held wanted : List ℕ) (s : Sheets) where
 
 -- The batch is no longer than the buffer.
 pub batch-short : (n : ℕ) (held wanted : List ℕ) → n ≤ 1984 → MapOf n held → MapOf n wanted → length (batchOf held wanted) ≤ 8032
-batch-short n held wanted few h w = omega (arith, batch-cost n held wanted (h .long) (w .long), plan-bound n held wanted h w)
+batch-short n held wanted few h w = omega (arith, batch-bound n held wanted h w)
 
 -- Demand 3 of the batch's own length.
 pub fewest : (n : ℕ) (held wanted batch : List ℕ) → MapOf n held → MapOf n wanted
@@ -94,18 +96,32 @@ fewest n held wanted batch h w =
       least = d .fewest;
     }
 
+-- The plan is in the lent list, and is the one that is chosen.
+pub chosen : (n : ℕ) (held wanted plan : List ℕ) → MapOf n held → MapOf n wanted
+    → PlanChosen n held wanted (length (planOf held wanted)) (length (batchOf held wanted)) (over (planNumbers (planOf held wanted)) plan)
+chosen n held wanted plan h w =
+    record {
+      parts = planOf held wanted;
+      number = refl;
+      numbers = rw (← length-numbers (planOf held wanted)) (sym (take-over (planNumbers (planOf held wanted)) plan));
+      chosen = plan-chosen n held wanted h w;
+      only = chosen-only n held wanted h w;
+      total = sym (batch-cost n held wanted (h .long) (w .long));
+      bound = batch-bound n held wanted h w;
+    }
+
 -- Refused.
 pub refused : (n : ℕ) (held wanted : List ℕ) (s : Sheets) {number : ℕ} → number ≡ first (planRefusals n held wanted s) → (number ≡ 0 → ⊥)
     → Planned n held wanted s (planOut number 0 0 s)
 unfolding planned
 refused n held wanted s {number} e h =
-    record { outcome = rw (← e, ne-eqb number 0 h); fewest = λ z. absurd (h z) }
+    record { outcome = rw (← e, ne-eqb number 0 h); fewest = λ z. absurd (h z); plan = λ z. absurd (h z); room = λ z. absurd (h z) }
 
 pub refused-bytes : (n : ℕ) (held wanted : List ℕ) (s : Sheets) {number : ℕ} → number ≡ first (bytePlanRefusals n held wanted s) → (number ≡ 0 → ⊥)
     → PlannedBytes n held wanted s (planOut number 0 0 s)
 unfolding plannedBytes
 refused-bytes n held wanted s {number} e h =
-    record { outcome = rw (← e, ne-eqb number 0 h); fewest = λ z. absurd (h z) }
+    record { outcome = rw (← e, ne-eqb number 0 h); fewest = λ z. absurd (h z); plan = λ z. absurd (h z); room = λ z. absurd (h z) }
 
 -- Planned.
 pub done : (n : ℕ) (held wanted : List ℕ) (s : Sheets) {plan room batch : List ℕ} {packets size : ℕ} → first (planRefusals n held wanted s) ≡ 0
@@ -116,6 +132,8 @@ done n held wanted s e h w r t =
     record {
       outcome = rw (e, t .packets-are, t .bytes-are, t .plan-is, t .batch-is, r);
       fewest = λ z. rw (t .packets-are, t .bytes-are, t .batch-is) (fewest n held wanted (s .batch) h w);
+      plan = λ z. rw (t .packets-are, t .bytes-are, t .plan-is) (chosen n held wanted (s .plan) h w);
+      room = λ z. rw r (room-means n held wanted h w);
     }
 
 -- On bytes: the numbers that they hold are planned as above, and the bytes are those of the numbers.
@@ -128,6 +146,8 @@ done-bytes n held wanted s {plan} {room} {batch} {packets} {size} e p r t =
     record {
       outcome = rw (e, ← t .outcome, p, r);
       fewest = t .fewest;
+      plan = t .plan;
+      room = t .room;
     }
 
 -- The numbers that bytes of the right lengths hold are of the right lengths.

@@ -70,7 +70,7 @@ unfolding planNumbers
 numbers-next [] p = refl
 numbers-next (q ∷ ps) p = rw (numbers-next ps p)
 
-length-numbers : (ps : List Part) → length (planNumbers ps) ≡ 2 * length ps
+pub length-numbers : (ps : List Part) → length (planNumbers ps) ≡ 2 * length ps
 unfolding planNumbers
 length-numbers [] = refl
 length-numbers (p ∷ ps) = omega (arith, length-numbers ps)

@@ -1,5 +1,5 @@
 -- Document 01, "Upload plan": the lists of which the plan is one, "a list of (start, count), count 1-126, rising, not overlapping", their order by
--- counts, and the one that is chosen. What the theorems about the plan say.
+-- counts, and the one that is chosen. What the theorems about the plan and the promise of planning say.
 use Prim.Native.Nat.{ℕ, _+_, _≤_, _<_}
 use mathlib.Core.Path.{_≡_}
 use mathlib.Core.Logic.{_⊎_}

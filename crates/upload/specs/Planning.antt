@@ -2,7 +2,7 @@
 -- wanted isn't 2N long, the plan isn't 3,968 16-bit numbers, working room isn't 1,985 numbers of 32 bits, or the batch buffer is under 8,032
 -- bytes; nothing is changed. After success, plan and batch beyond their used parts are unchanged, and working room holds at each index i below
 -- N the least bytes for the points from i on, and 0 from N on."
-use Prim.Native.Nat.{ℕ, _+_, _-_, _*_, _≤_, _<_}
+use Prim.Native.Nat.{ℕ, _+_, _-_, _*_, _/_, _≤_, _<_}
 use mathlib.Core.Path.{_≡_}
 use mathlib.Core.Bool.{Bool, cond, not, _&&_, _||_}
 use mathlib.Core.List.{List, [], _∷_, _++_}
@@ -12,8 +12,9 @@ use Rattle.wire.specs.First.{first}
 use Rattle.wire.specs.Buffers.{over}
 use Rattle.wire.specs.Tables.{words, bytes, longs, longBytes}
 use Rattle.upload.specs.Cost.{differs, rooms}
-use Rattle.upload.specs.Plan.{planOf, planNumbers, batchOf, joined}
+use Rattle.upload.specs.Plan.{Part, planOf, cost, planNumbers, batchOf, joined}
 use Rattle.upload.specs.Judge.{Turns, bytesOf, AllAccepted}
+use Rattle.upload.specs.Parts.{Chosen}
 
 -- The lists that planning writes.
 pub record Sheets : Type 0 where
@@ -92,10 +93,27 @@ pub record Fewest (n : ℕ) (held wanted : List ℕ) (many count : ℕ) (batch :
   pub total : bytesOf packets ≡ count
   pub least : (ps : List (List ℕ)) → Turns n held wanted ps → count ≤ bytesOf ps
 
--- The promise of planning: its answer and every lent list, and demand 3 of the byte count answered.
+-- The lent list begins with the plan: a list of (start, count), as many as answered, that document 01 chooses, and it chooses no other.
+pub record PlanChosen (n : ℕ) (held wanted : List ℕ) (many count : ℕ) (plan : List ℕ) : Type 0 where
+  pub parts : List Part
+  -- "The answer gives the number of packets".
+  pub number : length parts ≡ many
+  pub numbers : planNumbers parts ≡ take (2 * many) plan
+  -- "Among the cheapest such lists that turn held into wanted take the one whose first count is smallest, then the second, and so on."
+  pub chosen : Chosen n held wanted parts
+  pub only : (qs : List Part) → Chosen n held wanted qs → qs ≡ parts
+  -- "Its bytes are the sum of 6 + 4 × count."
+  pub total : cost parts ≡ count
+  -- "The bytes never exceed 4N + 6 × (N / 126 rounded up): 8,032 for a full map."
+  pub bound : count ≤ 4 * n + 6 * ((n + 125) / 126)
+
+-- The promise of planning: its answer and every lent list; and unless it is refused, demand 3 of the byte count answered, and what the lent plan and
+-- room hold.
 pub record Planned (n : ℕ) (held wanted : List ℕ) (before : Sheets) (o : PlanOut) : Type 0 where
   pub outcome : o ≡ planned n held wanted before
   pub fewest : o .status ≡ 0 → Fewest n held wanted (o .packets) (o .bytes) (o .left .batch)
+  pub plan : o .status ≡ 0 → PlanChosen n held wanted (o .packets) (o .bytes) (o .left .plan)
+  pub room : o .status ≡ 0 → RoomMeans n held wanted (o .left .room)
 
 -- ---- Lists lent as bytes: "the answers are those of the entries on wider numbers".
 
@@ -128,3 +146,5 @@ plannedBytes n held wanted s =
 pub record PlannedBytes (n : ℕ) (held wanted : List ℕ) (before : Sheets) (o : PlanOut) : Type 0 where
   pub outcome : o ≡ plannedBytes n held wanted before
   pub fewest : o .status ≡ 0 → Fewest n (words held) (words wanted) (o .packets) (o .bytes) (o .left .batch)
+  pub plan : o .status ≡ 0 → PlanChosen n (words held) (words wanted) (o .packets) (o .bytes) (words (o .left .plan))
+  pub room : o .status ≡ 0 → RoomMeans n (words held) (words wanted) (longs (o .left .room))

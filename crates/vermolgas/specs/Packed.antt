@@ -6,8 +6,8 @@ use Rattle.packet.specs.Reading.{Answer}
 use Rattle.packet.specs.Making.{Made}
 use Rattle.reply.specs.Reading.{ReplyAnswer}
 use Rattle.controller8.specs.Bytes.{Lent, LentOut}
-use Rattle.wire.specs.Tables.{words}
-use Rattle.upload.specs.Planning.{Sheets, PlanOut, plannedBytes, Fewest}
+use Rattle.wire.specs.Tables.{words, longs}
+use Rattle.upload.specs.Planning.{Sheets, PlanOut, RoomMeans, plannedBytes, Fewest, PlanChosen}
 
 -- The refusal in bits 0-7; opcode in 8-15, header bits 3-7 in place in 16-23, offset of the data in 24-31, data length from 32 on. An answer
 -- that is a refusal has 0 in all of these.
@@ -39,8 +39,11 @@ packedStep o = packedOut (o .status + 256 * o .size) (o .lent) (o .reply)
 abbrev pub packedPlan : PlanOut → ℕ
 packedPlan o = o .status + 256 * o .packets + 4294967296 * o .bytes
 
--- The promise of planning for C: the answer and every lent list, and demand 3 of the packets and the byte count that C reads in it.
+-- The promise of planning for C: the answer and every lent list; and unless it is a refusal, demand 3 of the packets and the byte count that C reads in
+-- it, and what the lent plan and room hold.
 pub record PackedPlan (n : ℕ) (held wanted : List ℕ) (before : Sheets) (answer : ℕ) (left : Sheets) : Type 0 where
   pub packed : answer ≡ packedPlan (plannedBytes n held wanted before)
   pub lists : left ≡ plannedBytes n held wanted before .left
   pub fewest : answer % 256 ≡ 0 → Fewest n (words held) (words wanted) (answer / 256 % 16777216) (answer / 4294967296) (left .batch)
+  pub plan : answer % 256 ≡ 0 → PlanChosen n (words held) (words wanted) (answer / 256 % 16777216) (answer / 4294967296) (words (left .plan))
+  pub room : answer % 256 ≡ 0 → RoomMeans n (words held) (words wanted) (longs (left .room))

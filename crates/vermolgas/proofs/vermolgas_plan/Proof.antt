@@ -54,6 +54,8 @@ returns c =
       packed = ap packedPlan (told .outcome);
       lists = ap (λ (o : PlanOut). o .left) (told .outcome);
       fewest = λ z. rw (packets, bytes) (told .fewest (omega arith));
+      plan = λ z. rw (packets, bytes) (told .plan (omega arith));
+      room = λ z. told .room (omega arith);
     }
 
 pub vermolgas-plan-spec : {M : Type 1} → statement M
