@@ -2,7 +2,7 @@
 -- length, header bits and number into its value.
 use Prim.Native.Nat.{ℕ, _+_, _*_, _/_, _%_, _<_}
 use mathlib.Core.Path.{_≡_, refl}
-use mathlib.Core.Bool.{true, false, _&&_, _||_, and-false}
+use mathlib.Core.Bool.{true, false, _||_, and-false}
 use mathlib.Core.List.{List, []}
 use native.Mathlib.Decide.{ℕ-discrete}
 use native.Mathlib.Omega.{arith}
@@ -53,11 +53,7 @@ pub answered-empty : (n : ℕ) (p : List ℕ) → answers n p ≡ true → empty
 unfolding emptyReply
 answered-empty n p e = rw e
 
--- The reply of a packet that is no accepted read, and that of one that is.
-pub empty-reply : (n : ℕ) (p : List ℕ) (s : State) → (eqb n 0 && reads p) ≡ false → replyTo n p s ≡ emptyReply n p
-unfolding replyTo emptyReply
-empty-reply n p s e = rw e
-
+-- The reply of an accepted read.
 pub read-reply : (p : List ℕ) (s : State) → 0 < length p → reads p ≡ true
     → replyTo 0 p s ≡ replyBytes (eqb (hasSum (headerOf p)) 1) 0 (dataBack (opcodeOf p) (dataOf p) s)
 unfolding replyTo

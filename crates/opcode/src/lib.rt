@@ -574,7 +574,7 @@ fn field_takes(f: Field, v: usize) -> bool
 
 // The place of the first field at fault among count fields from first on, which stand in data from a place on; the place behind the
 // last for none.
-pub fn fault(data: &[u8], first: usize, count: usize, start: usize) -> usize
+fn fault(data: &[u8], first: usize, count: usize, start: usize) -> usize
     requires { ⌜ (first + count ≤ 41) × (start ≤ 65536) ⌝ }
     ensures { λ r. ⌜ r ≡ «fault» (fieldsFrom first count) (now («data» .entry)) start ⌝ }
 {

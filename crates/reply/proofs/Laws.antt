@@ -1,13 +1,13 @@
 -- A reply's length, and the buffer that a reply is written into, store by store.
 use Prim.Native.Nat.{ℕ, _+_, _≤_, _<_}
-use mathlib.Core.Path.{_≡_, refl, _∙_}
+use mathlib.Core.Path.{_≡_, refl}
 use mathlib.Core.Bool.{Bool, true, false}
 use mathlib.Core.List.{List, [], _∷_, _++_, append-nil, append-assoc}
-use native.Mathlib.Nat.{add-comm, zero-add}
+use native.Mathlib.Nat.{add-comm}
 use native.Mathlib.Numerals.{add-one, add-three}
 use native.Mathlib.Omega.{arith}
 use lib.ListN.{length, take, drop, set, length-append, length-drop, take-append-drop}
-use lib.Seq.{sets, paste, drop-drop, drop-append-le, length-take-le, take-append-seam, drop-append-seam, set-append-seam, drop-cons, append-snoc}
+use lib.Seq.{sets, drop-drop, drop-append-le, length-take-le, take-append-seam, drop-append-seam, set-append-seam, drop-cons, append-snoc}
 use borrow.Rule.Slice.PartMut.{midOf, putMid}
 use Rattle.wire.specs.Numbers.{wordBytes}
 use Rattle.wire.specs.Checksum.{checksum}
@@ -92,15 +92,3 @@ lent-on d (x ∷ y ∷ z ∷ r) part k g h e sum status =
     let rest : drop (3 + length d) (x ∷ y ∷ z ∷ (part ++ drop k r)) ≡ drop (3 + length d) (x ∷ y ∷ z ∷ r) =
     rw (add-comm 3 (length d), add-three) (rw e (behind d r k g (omega arith))) in
     rw same (refl, over-behind sum status d (x ∷ y ∷ z ∷ (part ++ drop k r)) (x ∷ y ∷ z ∷ r) rest)
-
--- The same where n bytes of t were copied to the part's start.
-pub copied-in : (n : ℕ) (buffer t part : List ℕ) (k : ℕ) → n ≤ k → k + 3 ≤ length buffer → n ≤ length t → part ≡ paste (midOf 3 k buffer) 0 t n
-    → (sum : Bool) (status : ℕ)
-    → (length (replyBytes sum status (take n (drop 3 (putMid 3 k buffer part)))) ≡ length (replyBytes sum status (take n t)))
-    × (over (replyBytes sum status (take n (drop 3 (putMid 3 k buffer part)))) (putMid 3 k buffer part)
-    ≡ over (replyBytes sum status (take n t)) buffer)
-unfolding over
-copied-in n buffer t part k g h enough e sum status =
-    let long : length (take n t) ≡ n = length-take-le n t enough in
-    let same : part ≡ over (take n t) (midOf 3 k buffer) = e ∙ rw (long, zero-add n) in
-    rw long at (lent-on (take n t) buffer part k (omega arith) h same sum status)

@@ -80,20 +80,3 @@ pub fn seal(reply: &mut [u8], status: usize, n: usize, sum: bool) -> usize
     }
     n + 3
 }
-
-// A reply whose data is n bytes of src from a place on.
-pub fn write_reply(
-    reply: &mut [u8],
-    status: usize,
-    src: &[u8],
-    from: usize,
-    n: usize,
-    sum: bool,
-) -> usize
-    requires { ⌜ (status < 256) × (n < 65536) × (n + 4 ≤ length (now reply)) × (from + n ≤ length (now src)) ⌝ }
-    ensures { λ r. ⌜ (r ≡ length (replyBytes sum status (take n (drop from (now (src .entry))))))
-        × (now (reply .exit) ≡ over (replyBytes sum status (take n (drop from (now (src .entry))))) (now (reply .entry))) ⌝ }
-{
-    wire::copy(&mut reply[3..], 0, src, from, n);
-    seal(reply, status, n, sum)
-}

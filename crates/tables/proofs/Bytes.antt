@@ -1,13 +1,12 @@
 -- What is done to a table's bytes, said of its numbers. tb is a table as its bytes: an even count, each below 256. Numbers and bytes turn into
 -- each other without loss, and n numbers from a place on are 2 * n bytes from twice that place on.
-use Prim.Native.Nat.{ℕ, zero, suc, _+_, _*_, _/_, _%_, _≤_, _<_}
+use Prim.Native.Nat.{ℕ, zero, suc, _*_, _/_, _%_, _≤_, _<_}
 use mathlib.Core.Path.{_≡_}
 use mathlib.Core.List.{List, [], _∷_}
 use native.Mathlib.Omega.{arith}
-use lib.ListN.{length, take, drop, getD, length-take, length-drop}
-use lib.Seq.{paste, getD-drop}
+use lib.ListN.{length, take, drop, getD, length-take}
 use Rattle.wire.specs.Tables.{words, bytes}
-use Rattle.wire.proofs.Tables.{pairs-halves, halves-pairs, length-pairs, pairs-take, halves-take, halves-drop, halves-paste, pairs-below}
+use Rattle.wire.proofs.Tables.{pairs-halves, halves-pairs, length-pairs, pairs-take, halves-take, halves-drop, pairs-below}
 
 -- Every element is below a bound.
 abbrev pub Below : ℕ → List ℕ → Type 0
@@ -47,11 +46,3 @@ bytes-front : (s : List ℕ) (n : ℕ) → 2 * n ≤ length s → Below 256 s �
 bytes-front s n h small =
     let even : length (take (2 * n) s) % 2 ≡ 0 = rw length-take (omega arith) in
     rw (← halves-take, ← pairs-take, bytes-words (take (2 * n) s) even (take-below 256 (2 * n) s small))
-
--- A copy of bytes over a part is one of the numbers that they hold.
-pub bytes-copy : (tb : List ℕ) → length tb % 2 ≡ 0 → Below 256 tb → (src : List ℕ) → Below 256 src → (at from n : ℕ)
-    → from + 2 * n ≤ length src → bytes (paste (words tb) at (words (drop from src)) n) ≡ paste tb (2 * at) (drop from src) (2 * n)
-bytes-copy tb even small src srcSmall at from n h =
-    let enough : 2 * n ≤ length (drop from src) = rw length-drop (omega arith) in
-    let below : Below 256 (drop from src) = λ k. rw getD-drop (srcSmall (from + k)) in
-    rw (halves-paste, bytes-words tb even small, bytes-front (drop from src) n enough below)

@@ -29,10 +29,6 @@ pub total-turn : (s : List ℕ) (i : ℕ) → i < length s → total (take (i + 
 unfolding total
 total-turn s i h = rw (add-one, take-suc s i 0, total-append) (omega arith)
 
-pub checksum-below : (s : List ℕ) → checksum s < 256
-unfolding checksum
-checksum-below s = omega arith
-
 -- The loop that sums: where it begins, and a turn.
 pub checksum-none : (s : List ℕ) → 0 ≡ checksum (take 0 s)
 unfolding total checksum

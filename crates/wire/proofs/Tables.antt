@@ -1,11 +1,11 @@
 -- Tables of numbers and the digits that hold them, over every base: there and back, lengths, parts, copies, elements and bounds.
 -- Each law goes by recursion on the list, a number or two digits at a time.
-use Prim.Native.Nat.{ℕ, zero, suc, _+_, _*_, _/_, _%_, _≤_, _<_}
+use Prim.Native.Nat.{ℕ, zero, suc, _+_, _*_, _/_, _%_, _<_}
 use mathlib.Core.Path.{_≡_, refl, sym}
 use mathlib.Core.List.{List, [], _∷_, _++_}
 use native.Mathlib.Nat.{zero-add, mul-pos, mod-add-div, mod-lt, mod-eq-of-lt, div-eq-of-lt, add-mul-mod-self-left, add-mul-div-left, div-lt-iff-lt-mul, mul-le-mul-left}
 use native.Mathlib.Omega.{arith}
-use lib.ListN.{length, take, drop, getD, set, length-append, length-take}
+use lib.ListN.{length, take, drop, getD, set}
 use lib.Seq.{take-nil, drop-nil, sets, paste}
 use Rattle.wire.specs.Numbers.{wordAt, longAt}
 use Rattle.wire.specs.Tables.{pairs, halves, words, longs, longBytes}
@@ -80,14 +80,6 @@ pub halves-paste : (b : ℕ) (d : List ℕ) (at : ℕ) (s : List ℕ) (n : ℕ) 
 halves-paste b d at s n =
     let e : 2 * at + 2 * n ≡ 2 * (at + n) = omega arith in
     simp (halves-append, halves-take, halves-drop, e)
-
-pub pairs-paste : (b : ℕ) (d : List ℕ) (at : ℕ) (s : List ℕ) (n : ℕ) → 2 * at ≤ length d → 2 * n ≤ length s
-    → pairs b (paste d (2 * at) s (2 * n)) ≡ paste (pairs b d) at (pairs b s) n
-pairs-paste b d at s n hd hs =
-    let e : 2 * at + 2 * n ≡ 2 * (at + n) = omega arith in
-    let front : length (take (2 * at) d) % 2 ≡ 0 = rw length-take (omega arith) in
-    let copied : length (take (2 * at) d ++ take (2 * n) s) % 2 ≡ 0 = simp (length-append, length-take) (omega arith) in
-    simp (e, pairs-append, pairs-take, pairs-drop)
 
 pub halves-set : (b : ℕ) (l : List ℕ) (i n : ℕ) → halves b (set l i n) ≡ sets (halves b l) (2 * i) (n % b ∷ n / b ∷ [])
 halves-set b [] i n = refl
