@@ -40,9 +40,3 @@ bytes-words tb even small = halves-pairs 256 tb even small
 pub bytes-part : (tb : List ℕ) → length tb % 2 ≡ 0 → Below 256 tb → (from n : ℕ)
     → bytes (take n (drop from (words tb))) ≡ take (2 * n) (drop (2 * from) tb)
 bytes-part tb even small from n = rw (halves-take, halves-drop, bytes-words tb even small)
-
--- The first n numbers of bytes of which there are enough, be their count even or odd.
-bytes-front : (s : List ℕ) (n : ℕ) → 2 * n ≤ length s → Below 256 s → take (2 * n) (bytes (words s)) ≡ take (2 * n) s
-bytes-front s n h small =
-    let even : length (take (2 * n) s) % 2 ≡ 0 = rw length-take (omega arith) in
-    rw (← halves-take, ← pairs-take, bytes-words (take (2 * n) s) even (take-below 256 (2 * n) s small))

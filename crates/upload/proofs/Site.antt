@@ -30,7 +30,6 @@ pub record Site (n : ℕ) (held wanted plan room batch : List ℕ) : Type 0 wher
 pub record Place (n packets size i count : ℕ) (plan batch : List ℕ) : Type 0 where
   pub in-plan : 2 * packets + 1 < length plan
   pub in-batch : size + (6 + 4 * count) ≤ length batch
-  pub bytes-few : size + (6 + 4 * count) ≤ 8032
   pub some : 1 ≤ count
   pub count-few : count ≤ 126
   pub within : i + count ≤ n
@@ -74,7 +73,6 @@ module _ {n : ℕ} {held wanted plan₀ room batch₀ : List ℕ} (s : Site n he
             record {
               in-plan = omega (arith, s .few, s .plan-long, t .few, simp length-sets at (ap length (t .planned)));
               in-batch = omega (arith, enough, s .batch-long, simp length-sets at (ap length (t .batched)));
-              bytes-few = enough;
               some = fits .some;
               count-few = fits .few;
               within = fits .within;
