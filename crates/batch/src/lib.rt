@@ -19,10 +19,7 @@ struct Batch<'a> {
 fn open<'a>(buffer: &'a mut [u8], filled: usize) -> Batch<'a>
     ensures { λ r. ⌜ (r .buffer ≡ buffer .entry) × (r .filled ≡ filled) ⌝ }
 {
-    Batch {
-        buffer: buffer,
-        filled: filled,
-    }
+    Batch { buffer, filled }
 }
 
 // Header and opcode, length, start: where the points go.
@@ -45,7 +42,7 @@ fn head<'a>(batch: Batch<'a>, start: usize, count: usize) -> Batch<'a>
     let filled = head_at(&mut *batch.buffer, at, start, count);
     Batch {
         buffer: batch.buffer,
-        filled: filled,
+        filled,
     }
 }
 
@@ -67,7 +64,7 @@ fn points<'a, 'b>(batch: Batch<'a>, wanted: &'b [u16], start: usize, count: usiz
     let filled = points_at(&mut *batch.buffer, at, wanted, start, count);
     Batch {
         buffer: batch.buffer,
-        filled: filled,
+        filled,
     }
 }
 
@@ -89,7 +86,7 @@ fn bytes<'a, 'b>(batch: Batch<'a>, wanted: &'b [u8], start: usize, count: usize)
     let filled = bytes_at(&mut *batch.buffer, at, wanted, start, count);
     Batch {
         buffer: batch.buffer,
-        filled: filled,
+        filled,
     }
 }
 
