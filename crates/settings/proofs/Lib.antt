@@ -1,4 +1,5 @@
 pub mod Laws
+pub mod Lists
 pub mod Resets
 pub mod Fits
 pub mod Same

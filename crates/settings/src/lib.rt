@@ -2,14 +2,17 @@
 ghost use mathlib.Core.Path.{_≡_};
 ghost use mathlib.Core.Bool.{_&&_, _||_};
 ghost use Prim.Native.Nat.{ℕ, _+_, _*_, _≤_, _<_};
-ghost use lib.Dec.{eqb, leb};
+ghost use lib.Dec.{eqb, leb, ltb};
 ghost use lib.ListN.{length};
-ghost use Rattle.wire.specs.Numbers.{byteAt};
+ghost use lib.Seq.{sets};
+ghost use Rattle.wire.specs.Numbers.{byteAt, wordAt};
+ghost use Rattle.wire.specs.Tables.{bytes};
 ghost use Rattle.opcode.specs.Fields.{from-to, takes};
 ghost use Rattle.settings.specs.Layout.{slot, placeOf, modeAt, columnsAt, rowsAt};
-ghost use Rattle.settings.specs.Ranges.{right, behindPort, forEach, pictureFields, deviceFields, shapeRight, settingsRight};
-ghost use Rattle.settings.specs.Reset.{resetBlock};
-ghost use Rattle.settings.specs.Spread.{spreadOver, shapeOver};
+ghost use Rattle.settings.specs.Ranges.{right, behindPort, forEach, pictureFields, deviceFields};
+ghost use Rattle.settings.specs.Ranges.{rising, shapeRight, settingsRight};
+ghost use Rattle.settings.specs.Reset.{count-up, resetShape, resetBlock};
+ghost use Rattle.settings.specs.Spread.{spreadOver};
 
 // Whether every stored setting, staged and live, lies in its range. The bytes past them are not judged. Every packet asks this, so
 // the parts are judged one after another without an early return, each joined to what those before it came to.
@@ -41,21 +44,21 @@ fn picture_in_range(block: &[u8]) -> bool
 }
 
 // The shape rule, of the shape at a place.
-pub fn shape_in_range(block: &[u8], shape: usize) -> bool
-    requires { ⌜ shape ≤ 1024 ⌝ }
+fn shape_in_range(block: &[u8], shape: usize) -> bool
+    requires { ⌜ shape + 193 ≤ length (now block) ⌝ }
     ensures { λ r. ⌜ r ≡ shapeRight (now (block .entry)) shape ⌝ }
 {
     let fine = within(true, wire::byte(block, shape), 0, 1);
     let fine = within(fine, wire::word(block, shape + 1), 2, 62);
     let fine = within(fine, wire::word(block, shape + 3), 2, 32);
     let fine = both(fine, counts_in_mode(block, shape));
-    let fine = both(fine, opcode::rise(block, shape + 5, 62) == 62);
-    both(fine, opcode::rise(block, shape + 129, 32) == 32)
+    let fine = list_in_range(fine, block, shape + 5, 62);
+    list_in_range(fine, block, shape + 129, 32)
 }
 
 // "in mode 1 any shape but 62 × 32"
 fn counts_in_mode(block: &[u8], shape: usize) -> bool
-    requires { ⌜ shape ≤ 1024 ⌝ }
+    requires { ⌜ shape + 193 ≤ length (now block) ⌝ }
     ensures { λ r. ⌜ r ≡ (eqb (modeAt (now (block .entry)) shape) 0
         || (eqb (columnsAt (now (block .entry)) shape) 62 && eqb (rowsAt (now (block .entry)) shape) 32)) ⌝ }
 {
@@ -66,6 +69,37 @@ fn counts_in_mode(block: &[u8], shape: usize) -> bool
         return false;
     }
     wire::word(block, shape + 3) == 32
+}
+
+// Joined to what came before: so many 16-bit numbers from a place on, each above the one before it.
+fn list_in_range(fine: bool, block: &[u8], at: usize, count: usize) -> bool
+    requires { ⌜ (1 ≤ count) × (at + 2 * count ≤ length (now block)) ⌝ }
+    ensures { λ r. ⌜ r ≡ (fine && rising (now (block .entry)) at count) ⌝ }
+{
+    let mut all = fine;
+    let mut i = 0;
+    while i + 1 < count {
+        all = next_above(all, block, at + 2 * i);
+        i += 1;
+    }
+    all
+}
+
+// Joined to what came before: the 16-bit number behind the one at a place is above it.
+fn next_above(fine: bool, block: &[u8], at: usize) -> bool
+    requires { ⌜ at + 4 ≤ length (now block) ⌝ }
+    ensures { λ r. ⌜ r ≡ (fine && ltb (wordAt (now (block .entry)) at) (wordAt (now (block .entry)) (at + 2))) ⌝ }
+{
+    let v = number(block[at], block[at + 1]);
+    let next = number(block[at + 2], block[at + 3]);
+    if v < next { fine } else { false }
+}
+
+// The number of two bytes, low byte first.
+fn number(low: u8, high: u8) -> u16
+    ensures { λ r. ⌜ r ≡ low + 256 * high ⌝ }
+{
+    low as u16 + 256 * (high as u16)
 }
 
 // Update mode, pins, PWM ports, lock and UART ports, from place 497 on.
@@ -200,32 +234,45 @@ pub fn reset_block(block: &mut [u8])
     requires { ⌜ length (now block) ≡ 1024 ⌝ }
     ensures { λ _. ⌜ now (block .exit) ≡ resetBlock ⌝ }
 {
-    spread(block, 0, 1, 0, 0, 1024);
+    spread(block, 0, 1, 0, 1024);
     reset_shape(block, 8);
     reset_shape(block, 202);
-    spread(block, 395, 1, 3, 0, 2);
-    spread(block, 762, 6, 20, 0, 12);
+    spread(block, 395, 1, 3, 2);
+    spread(block, 762, 6, 20, 12);
 }
 
-// 62 columns, 32 rows, lists 0, 1, 2 and so on, where zeros stand.
+// All of a shape: mode 0, 62 columns, 32 rows, lists 0, 1, 2 and so on.
 fn reset_shape(block: &mut [u8], shape: usize)
     requires { ⌜ shape + 193 ≤ length (now block) ⌝ }
-    ensures { λ _. ⌜ now (block .exit) ≡ shapeOver (now (block .entry)) shape ⌝ }
+    ensures { λ _. ⌜ now (block .exit) ≡ sets (now (block .entry)) shape resetShape ⌝ }
 {
-    spread(block, shape + 1, 1, 62, 0, 1);
-    spread(block, shape + 3, 1, 32, 0, 1);
-    spread(block, shape + 5, 2, 0, 1, 62);
-    spread(block, shape + 129, 2, 0, 1, 32);
+    wire::put_byte(block, shape, 0);
+    wire::put_word(block, shape + 1, 62);
+    wire::put_word(block, shape + 3, 32);
+    store_counting(block, shape + 5, 62);
+    store_counting(block, shape + 129, 32);
 }
 
-// Stores n bytes, from a place on and step places apart: v, and each next one more by up.
-fn spread(block: &mut [u8], place: usize, step: usize, v: usize, up: usize, n: usize)
-    requires { ⌜ ((k : ℕ) → k < n → (place + step * k < length (now block)) × (v + up * k < 256)) ⌝ }
-    ensures { λ _. ⌜ now (block .exit) ≡ spreadOver (now (block .entry)) place step v up n ⌝ }
+// Stores n 16-bit numbers from a place on: 0, 1, 2 and so on.
+fn store_counting(block: &mut [u8], place: usize, n: usize)
+    requires { ⌜ (n ≤ 65536) × (place + 2 * n ≤ length (now block)) ⌝ }
+    ensures { λ _. ⌜ now (block .exit) ≡ sets (now (block .entry)) place (bytes (count-up 0 n)) ⌝ }
 {
     let mut i = 0;
     while i < n {
-        block[place + step * i] = (v + up * i) as u8;
+        wire::put_word(block, place + 2 * i, i);
+        i += 1;
+    }
+}
+
+// Stores a byte n times, from a place on and step places apart.
+fn spread(block: &mut [u8], place: usize, step: usize, v: u8, n: usize)
+    requires { ⌜ ((k : ℕ) → k < n → place + step * k < length (now block)) ⌝ }
+    ensures { λ _. ⌜ now (block .exit) ≡ spreadOver (now (block .entry)) place step v n ⌝ }
+{
+    let mut i = 0;
+    while i < n {
+        block[place + step * i] = v;
         i += 1;
     }
 }

@@ -1,56 +1,62 @@
--- The four runs are those of the definition.
-use Rattle.settings.specs.Spread.{shapeOver}
+-- The five runs of stores are those of the law.
+use Rattle.settings.proofs.Resets.{shape-over}
 use borrow.Author.Needs.{needs}
 use Rattle.settings.proofs.reset_shape.Statement.{statement}
 use Rattle.settings.proofs.reset_shape.Tie as tie
 
-add-spread : tie.Need-add-spread
-add-spread c = search needs
+put-byte-requires : tie.Need-put-byte-requires
+put-byte-requires c κs = search needs
 
-spread-requires : tie.Need-spread-requires
-spread-requires c κs = search needs
+add-put-word : tie.Need-add-put-word
+add-put-word c = search needs
 
-add-spread-2 : tie.Need-add-spread-2
-add-spread-2 c = search needs
+put-word-requires : tie.Need-put-word-requires
+put-word-requires c κs = search needs
 
-spread-requires-2 : tie.Need-spread-requires-2
-spread-requires-2 c κs = search needs
+add-put-word-2 : tie.Need-add-put-word-2
+add-put-word-2 c = search needs
 
-add-spread-3 : tie.Need-add-spread-3
-add-spread-3 c = search needs
+put-word-requires-2 : tie.Need-put-word-requires-2
+put-word-requires-2 c κs = search needs
 
-spread-requires-3 : tie.Need-spread-requires-3
-spread-requires-3 c κs = search needs
+add-store-counting : tie.Need-add-store-counting
+add-store-counting c = search needs
 
-add-spread-4 : tie.Need-add-spread-4
-add-spread-4 c = search needs
+store-counting-requires : tie.Need-store-counting-requires
+store-counting-requires c κs = search needs
 
-spread-requires-4 : tie.Need-spread-requires-4
-spread-requires-4 c κs = search needs
+add-store-counting-2 : tie.Need-add-store-counting-2
+add-store-counting-2 c = search needs
+
+store-counting-requires-2 : tie.Need-store-counting-requires-2
+store-counting-requires-2 c κs = search needs
 
 same-length : tie.Need-same-length
 same-length c = search needs
 
 returns : tie.Need-returns
-unfolding shapeOver
 returns c =
-    let at-4 = c .before .before in
+    let at-5 = c .before .before in
+    let at-4 = at-5 .before .before .before .before in
     let at-3 = at-4 .before .before .before .before in
     let at-2 = at-3 .before .before .before .before in
     let at-1 = at-2 .before .before .before .before in
-    rw (at-4 .spread4 .ensures, at-3 .spread3 .ensures, at-2 .spread2 .ensures, at-1 .spread .ensures)
+    let args = at-1 .before .before .before .args in
+    shape-over (args .block .now) (args .shape) (at-1 .put-byte .ensures) (at-2 .put-word .ensures) (at-3 .put-word2 .ensures)
+    (at-4 .store-counting .ensures) (at-5 .store-counting2 .ensures)
 
 pub reset-shape-spec : {M : Type 1} → statement M
 reset-shape-spec =
     tie.close
     (tie.spec
-    add-spread
-    spread-requires
-    add-spread-2
-    spread-requires-2
-    add-spread-3
-    spread-requires-3
-    add-spread-4
-    spread-requires-4
+    put-byte-requires
+    add-put-word
+    put-word-requires
+    add-put-word-2
+    put-word-requires-2
+    add-store-counting
+    store-counting-requires
+    add-store-counting-2
+    store-counting-requires-2
     same-length
     returns)

@@ -5,10 +5,10 @@ use mathlib.Core.Bool.{_&&_, _||_, and-true, and-assoc}
 use mathlib.Core.List.{List}
 use native.Mathlib.Omega.{arith}
 use lib.Dec.{eqb}
-use Rattle.opcode.specs.Fields.{from-to, takes, wordsAt, rise}
+use Rattle.opcode.specs.Fields.{from-to, takes}
 use Rattle.opcode.specs.Commands.{commandOf}
 use Rattle.settings.specs.Layout.{modeAt, columnsAt, rowsAt}
-use Rattle.settings.specs.Ranges.{right, shapeRight}
+use Rattle.settings.specs.Ranges.{right, rising, shapeRight}
 use borrow.Author.Needs.{needs}
 use Rattle.settings.proofs.shape_in_range.Statement.{statement}
 use Rattle.settings.proofs.shape_in_range.Tie as tie
@@ -17,8 +17,8 @@ parts : (d : List ℕ) (shape : ℕ)
     → shapeRight d shape
     ≡ (takes (from-to 1 0 1) (modeAt d shape) && takes (from-to 1 2 62) (columnsAt d shape) && takes (from-to 1 2 32) (rowsAt d shape)
     && (eqb (modeAt d shape) 0 || (eqb (columnsAt d shape) 62 && eqb (rowsAt d shape) 32))
-    && eqb (rise (wordsAt d (shape + 5) 62)) 62
-    && eqb (rise (wordsAt d (shape + 129) 32)) 32)
+    && rising d (shape + 5) 62
+    && rising d (shape + 129) 32)
 unfolding shapeRight right commandOf
 parts d shape = let rows : shape + 1 + 2 ≡ shape + 3 = omega arith in rw rows (simp (and-assoc, and-true))
 
@@ -52,29 +52,21 @@ counts-in-mode-requires c κs = search needs
 both-requires : tie.Need-both-requires
 both-requires c κs = search needs
 
-add-rise : tie.Need-add-rise
-add-rise c = search needs
+add-list-in-range : tie.Need-add-list-in-range
+add-list-in-range c = search needs
 
-rise-requires : tie.Need-rise-requires
-rise-requires c κs = search needs
+list-in-range-requires : tie.Need-list-in-range-requires
+list-in-range-requires c κs = search needs
 
-both-requires-2 : tie.Need-both-requires-2
-both-requires-2 c κs = search needs
+add-list-in-range-2 : tie.Need-add-list-in-range-2
+add-list-in-range-2 c = search needs
 
-add-rise-2 : tie.Need-add-rise-2
-add-rise-2 c = search needs
-
-rise-requires-2 : tie.Need-rise-requires-2
-rise-requires-2 c κs = search needs
-
-both-requires-3 : tie.Need-both-requires-3
-both-requires-3 c κs = search needs
+list-in-range-requires-2 : tie.Need-list-in-range-requires-2
+list-in-range-requires-2 c κs = search needs
 
 returns : tie.Need-returns
 returns c =
-    let at-7 = c .before in
-    let at-6 = at-7 .before in
-    let at-5 = at-6 .before in
+    let at-5 = c .before in
     let at-4 = at-5 .before in
     let at-counts = at-4 .before in
     let at-3 = at-counts .before in
@@ -82,10 +74,8 @@ returns c =
     let at-1 = at-2 .before .before in
     let args = at-1 .before .before .before .args in
     rw (
-      c .both3 .ensures,
-      at-7 .rise2 .ensures,
-      at-6 .both2 .ensures,
-      at-5 .rise .ensures,
+      c .list-in-range2 .ensures,
+      at-5 .list-in-range .ensures,
       at-4 .both .ensures,
       at-counts .counts-in-mode .ensures,
       at-3 .within3 .ensures,
@@ -111,10 +101,8 @@ shape-in-range-spec =
     within-requires-3
     counts-in-mode-requires
     both-requires
-    add-rise
-    rise-requires
-    both-requires-2
-    add-rise-2
-    rise-requires-2
-    both-requires-3
+    add-list-in-range
+    list-in-range-requires
+    add-list-in-range-2
+    list-in-range-requires-2
     returns)

@@ -1,4 +1,4 @@
--- The loop keeps that the first i bytes are stored. That a place is within the block and a byte below 256 is asked of every turn.
+-- The loop keeps that the first i bytes are stored. That a place is within the block is asked of every turn.
 use mathlib.Core.Path.{_≡_, refl}
 use Prim.Native.Nat.{_-_, _≤_}
 use native.Mathlib.Numerals.{add-one}
@@ -9,11 +9,11 @@ use Rattle.settings.proofs.spread.Statement.{statement}
 use Rattle.settings.proofs.spread.Tie as tie
 
 abbrev Inv-loop : tie.InvT-loop
-Inv-loop block₀ place step v up n i₀ block i =
-    (i ≤ n) × (block ≡ spreadOver block₀ place step v up i) × (length block ≡ length block₀)
+Inv-loop block₀ place step v n i₀ block i =
+    (i ≤ n) × (block ≡ spreadOver block₀ place step v i) × (length block ≡ length block₀)
 
 abbrev μ-loop : tie.MeasureT-loop
-μ-loop block₀ place step v up n i₀ block i = n - i
+μ-loop block₀ place step v n i₀ block i = n - i
 
 loop-holds : tie.Need-loop-holds Inv-loop μ-loop
 unfolding spreadOver
@@ -24,15 +24,6 @@ mul-block c = omega (arith, c .before .before .pre (c .before .loop .i) (c .loop
 
 add-block : tie.Need-add-block Inv-loop μ-loop
 add-block c = omega (arith, c .before .before .pre (c .before .loop .i) (c .loop-test .taken))
-
-cast-block : tie.Need-cast-block Inv-loop μ-loop
-cast-block c = omega (arith, c .before .before .pre (c .before .loop .i) (c .loop-test .taken))
-
-mul-block-2 : tie.Need-mul-block-2 Inv-loop μ-loop
-mul-block-2 c = omega (arith, c .before .before .pre (c .before .loop .i) (c .loop-test .taken))
-
-add-block-2 : tie.Need-add-block-2 Inv-loop μ-loop
-add-block-2 c = omega (arith, c .before .before .pre (c .before .loop .i) (c .loop-test .taken))
 
 slice-write-block : tie.Need-slice-write-block Inv-loop μ-loop
 slice-write-block c = omega (arith, c .before .before .pre (c .before .loop .i) (c .loop-test .taken))
@@ -67,9 +58,6 @@ spread-spec =
     loop-holds
     mul-block
     add-block
-    cast-block
-    mul-block-2
-    add-block-2
     slice-write-block
     add-i
     loop-less
