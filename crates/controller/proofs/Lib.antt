@@ -1,5 +1,5 @@
--- Laws of the front end: the decision on a packet and what it bounds, replies, and the block's bytes; for the functions here and for the
--- entries above. Then the theorems over any packets: every reply reads back, bytes without a meaning and the live side are kept, and a state
+-- Laws of the front end: the decision on a packet and what it bounds, the ways of a packet, replies, and the block's bytes; for the functions
+-- here and for the entries above. Then the theorems over any packets: every reply reads back, bytes without a meaning and the live side are kept, and a state
 -- in range stays in range.
 pub mod Bounds
 pub mod Sizes
@@ -7,6 +7,7 @@ pub mod Replies
 pub mod Blocks
 pub mod Steps
 pub mod Demands
+pub mod Grants
 pub mod Changes
 pub mod ReadBack
 pub mod Kept

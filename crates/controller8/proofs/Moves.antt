@@ -1,5 +1,5 @@
 -- What is copied into a table's bytes and out of them, said of its numbers: the law on a copied part, put to the places and counts of each
--- command. What an accepted command names lies within its table.
+-- command.
 use Prim.Native.Nat.{ℕ, _+_, _-_, _*_, _%_, _≤_}
 use mathlib.Core.Path.{_≡_, sym, _∙_}
 use mathlib.Core.List.{List, append-nil}
@@ -11,28 +11,11 @@ use Rattle.wire.specs.Buffers.{over}
 use Rattle.wire.specs.Numbers.{byteAt, wordAt}
 use Rattle.wire.specs.Tables.{words, bytes}
 use Rattle.wire.proofs.Tables.{halves-paste}
-use Rattle.opcode.specs.Options.{isRead}
 use Rattle.packet.specs.Points.{writePoints, startOf, pointsOf}
 use Rattle.tables.proofs.Bytes.{Below, bytes-words, bytes-part}
 use Rattle.controller.specs.Commands.{writeGains, colourPlace}
-use Rattle.controller.specs.Granted.{Granted, PointsWrite, GainsWrite}
+use Rattle.controller.specs.Granted.{PointsWrite, GainsWrite}
 use Rattle.controller.proofs.Blocks.{paste-over}
-use Rattle.controller.proofs.Bounds.{PointsRead, GainsRead, points-read, gains-read, points-write, gains-write}
-
--- ---- What an accepted command's data is known to be.
-
-module _ (op o : ℕ) (d block : List ℕ) (g : Granted op o d block) where
-  pub points-back : op ≡ 0x34 → isRead o ≡ 1 → PointsRead d
-  points-back e h = points-read o d block h (rw e at (g .judged)) (rw e at (g .fits)) (g .settings)
-
-  pub gains-back : op ≡ 0x2B → isRead o ≡ 1 → GainsRead d
-  gains-back e h = gains-read o d block h (rw e at (g .judged)) (rw e at (g .fits))
-
-  pub points-in : isRead o ≡ 0 → op ≡ 0x34 → PointsWrite d
-  points-in h e = points-write o d block h (rw e at (g .judged)) (rw e at (g .fits)) (g .settings)
-
-  pub gains-in : isRead o ≡ 0 → op ≡ 0x2B → GainsWrite d
-  gains-in h e = gains-write o d block h (rw e at (g .judged)) (rw e at (g .fits))
 
 -- ---- Out of a table.
 

@@ -2,7 +2,7 @@
 use controller::Outcome;
 use packet::Reading;
 ghost use mathlib.Core.Path.{_≡_};
-ghost use mathlib.Core.Bool.{cond, not, _||_};
+ghost use mathlib.Core.Bool.{cond, true, false, not, _||_};
 ghost use mathlib.Core.List.{[]};
 ghost use Prim.Native.Nat.{_≤_};
 ghost use lib.ListN.{length};
@@ -15,6 +15,7 @@ ghost use Rattle.controller.specs.State.{«stopped» as stoppedBy};
 ghost use Rattle.controller8.specs.Bytes.{lent, stateIn, bytesOf, byteLengthsRight, lentOut, stepBytes, lentReset, resetBytes};
 ghost use Rattle.wire.specs.Tables.{words, bytes};
 ghost use Rattle.controller.specs.Commands.{written, writeGains, applyLive, dataBack};
+ghost use Rattle.controller.specs.Step.{decision};
 ghost use Rattle.controller.specs.Granted.{Granted, PointsWrite, GainsWrite};
 
 // Puts the block and all tables as they are after reset. Answers 0, or 1 for a wrong length, when nothing is changed.
@@ -63,6 +64,23 @@ pub fn handle(
     if stopped(block, staged, live, gains, reply) {
         return Outcome { status: 1, size: 0 };
     }
+    decided(packet, block, staged, live, gains, reply)
+}
+
+// One packet that refusal 1 does not stop: refused, or performed.
+fn decided(
+    packet: &[u8],
+    block: &mut [u8],
+    staged: &mut [u8],
+    live: &mut [u8],
+    gains: &mut [u8],
+    reply: &mut [u8],
+) -> Outcome
+    requires { ⌜ (byteLengthsRight (lent (now block) (now staged) (now live) (now gains)) ≡ true)
+        × (stoppedBy (stateIn (lent (now block) (now staged) (now live) (now gains))) (now reply) ≡ false) ⌝ }
+    ensures { λ r. ⌜ lentOut (r .status) (r .size) (lent (now (block .exit)) (now (staged .exit)) (now (live .exit)) (now (gains .exit))) (now (reply .exit))
+        ≡ stepBytes (now (packet .entry)) (lent (now (block .entry)) (now (staged .entry)) (now (live .entry)) (now (gains .entry))) (now (reply .entry)) ⌝ }
+{
     let decision = controller::decide(packet, block);
     let Reading::Command {
         opcode,
@@ -73,28 +91,45 @@ pub fn handle(
     else {
         return controller::refuse(decision, packet, reply);
     };
-    let data = &packet[at..at + size];
-    if options / 128 % 2 == 1 {
-        let n = answer_read(
-            opcode as usize,
-            options as usize,
-            data,
-            block,
-            staged,
-            gains,
-            reply,
-        );
-        return Outcome { status: 0, size: n };
-    }
-    store(
+    perform(
         opcode as usize,
         options as usize,
-        data,
+        at,
+        size,
+        packet,
         block,
         staged,
         live,
         gains,
-    );
+        reply,
+    )
+}
+
+// An accepted command: a read is answered with its data, a write is stored and acknowledged.
+fn perform(
+    opcode: usize,
+    options: usize,
+    at: usize,
+    size: usize,
+    packet: &[u8],
+    block: &mut [u8],
+    staged: &mut [u8],
+    live: &mut [u8],
+    gains: &mut [u8],
+    reply: &mut [u8],
+) -> Outcome
+    requires { ⌜ (byteLengthsRight (lent (now block) (now staged) (now live) (now gains)) ≡ true)
+        × (stoppedBy (stateIn (lent (now block) (now staged) (now live) (now gains))) (now reply) ≡ false)
+        × (record { number = 0; opcode = opcode; options = options; place = at; size = size } ≡ decision (now packet) (now block)) ⌝ }
+    ensures { λ r. ⌜ lentOut (r .status) (r .size) (lent (now (block .exit)) (now (staged .exit)) (now (live .exit)) (now (gains .exit))) (now (reply .exit))
+        ≡ stepBytes (now (packet .entry)) (lent (now (block .entry)) (now (staged .entry)) (now (live .entry)) (now (gains .entry))) (now (reply .entry)) ⌝ }
+{
+    let data = &packet[at..at + size];
+    if options / 128 % 2 == 1 {
+        let n = answer_read(opcode, options, data, block, staged, gains, reply);
+        return Outcome { status: 0, size: n };
+    }
+    store(opcode, options, data, block, staged, live, gains);
     let n = controller::acknowledge(packet, 0, reply);
     Outcome { status: 0, size: n }
 }

@@ -1,10 +1,6 @@
--- A refusal is its step by its number, which is not 0; a command is performed as the decision gives it.
-use mathlib.Core.Path.{sym, ap}
-use native.Mathlib.Omega.{arith}
-use Rattle.packet.specs.Reading.{Answer}
-use Rattle.controller.proofs.Bounds.{refused}
-use Rattle.controller.proofs.Steps.{step-refused}
-use Rattle.controller16.proofs.Lent.{lent}
+-- A refusal is answered as its step; a command is performed as the decision gives it.
+use Rattle.controller.proofs.Demands.{lent}
+use Rattle.controller.proofs.Grants.{answers-refusal}
 use borrow.Author.Needs.{needs}
 use Rattle.controller16.proofs.decided.Statement.{statement}
 use Rattle.controller16.proofs.decided.Tie as tie
@@ -34,11 +30,7 @@ returns c =
     let at-decide = at-told .before .before in
     let at-start = at-decide .before .before .before .before .before .before .before .before in
     let told = at-told .enum-told .given .1 in
-    let decided = rw told at (at-decide .decide .ensures) in
-    let answered = rw told at (at-refuse .refuse .ensures) in
-    let some = refused _ _ _ decided .some in
-    rw (answered .0, answered .1, answered .2)
-    (sym (step-refused _ _ _ (at-start .pre) _ (λ e. omega arith) (sym (ap (λ (a : Answer). a .number) decided))))
+    answers-refusal _ _ _ (at-start .pre) (rw told at (at-decide .decide .ensures)) (rw told at (at-refuse .refuse .ensures))
 
 cast-perform : tie.Need-cast-perform
 cast-perform c = search needs

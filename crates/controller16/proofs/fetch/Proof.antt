@@ -4,7 +4,7 @@ use native.Mathlib.Omega.{arith}
 use borrow.Author.Tests.{ne-eqb}
 use Rattle.controller.specs.Commands.{dataBack, readPoints, readGains}
 use Rattle.controller.proofs.Bounds.{PointsRead, GainsRead}
-use Rattle.controller16.proofs.Grants.{reads-points, reads-gains}
+use Rattle.controller.proofs.Grants.{reads-points, reads-gains}
 use Rattle.controller16.proofs.Returned.{bytes-long}
 use borrow.Author.Needs.{needs}
 use Rattle.controller16.proofs.fetch.Statement.{statement}

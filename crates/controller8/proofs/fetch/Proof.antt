@@ -6,16 +6,17 @@ use borrow.Author.Tests.{ne-eqb}
 use Rattle.wire.specs.Numbers.{byteAt, wordAt}
 use Rattle.controller.specs.Commands.{dataBack, readPoints, readGains, colourPlace}
 use Rattle.controller.proofs.Bounds.{PointsRead, GainsRead}
-use Rattle.controller8.proofs.Moves.{points-back, gains-back, fetched}
+use Rattle.controller.proofs.Grants.{reads-points, reads-gains}
+use Rattle.controller8.proofs.Moves.{fetched}
 use borrow.Author.Needs.{needs}
 use Rattle.controller8.proofs.fetch.Statement.{statement}
 use Rattle.controller8.proofs.fetch.Tie as tie
 
 points : (c : tie.After-word) → PointsRead (c .before .before .before .before .before .before .before .args .«data» .now)
-points c = points-back _ _ _ _ (c .before .before .before .before .before .before .before .pre .0) (c .before .if1 .taken) (c .before .before .before .before .before .before .before .pre .1)
+points c = reads-points _ _ _ _ (c .before .before .before .before .before .before .before .pre .0) (c .before .before .before .before .before .before .before .pre .1) (c .before .if1 .taken)
 
 gains : (c : tie.After-word3) → GainsRead (c .before .before .before .before .before .before .before .before .args .«data» .now)
-gains c = gains-back _ _ _ _ (c .before .before .before .before .before .before .before .before .pre .0) (c .before .if2 .taken) (c .before .before .before .before .before .before .before .before .pre .1)
+gains c = reads-gains _ _ _ _ (c .before .before .before .before .before .before .before .before .pre .0) (c .before .before .before .before .before .before .before .before .pre .1) (c .before .if2 .taken)
 
 word-requires : tie.Need-word-requires
 word-requires c κs = search needs

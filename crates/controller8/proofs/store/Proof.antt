@@ -1,6 +1,6 @@
 -- Each part is left by its own function, as the command leaves it; the four calls touch four different parts.
 use Rattle.controller.specs.Commands.{written}
-use Rattle.controller8.proofs.Moves.{points-in, gains-in}
+use Rattle.controller.proofs.Grants.{writes-points, writes-gains}
 use borrow.Author.Needs.{needs}
 use Rattle.controller8.proofs.store.Statement.{statement}
 use Rattle.controller8.proofs.store.Tie as tie
@@ -9,10 +9,10 @@ apply-requires : tie.Need-apply-requires
 apply-requires c κs = search needs
 
 store-points-requires : tie.Need-store-points-requires
-store-points-requires c κs = let pre = c .before .before .before .before .before .before .before .before .before .before .before .pre in (points-in _ _ _ _ (pre .0) (pre .1), pre .2)
+store-points-requires c κs = let pre = c .before .before .before .before .before .before .before .before .before .before .before .pre in (writes-points _ _ _ _ (pre .0) (pre .1), pre .2)
 
 store-gains-requires : tie.Need-store-gains-requires
-store-gains-requires c κs = let pre = c .before .before .before .before .before .before .before .before .before .before .before .before .before .before .before .pre in (gains-in _ _ _ _ (pre .0) (pre .1), pre .4)
+store-gains-requires c κs = let pre = c .before .before .before .before .before .before .before .before .before .before .before .before .before .before .before .pre in (writes-gains _ _ _ _ (pre .0) (pre .1), pre .4)
 
 store-requires : tie.Need-store-requires
 store-requires c κs = search needs
