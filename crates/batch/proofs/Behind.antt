@@ -38,7 +38,7 @@ use denote.Triple.Walked.{says, needs, Stays, stay-none, stay-none-slice, walkOf
 use denote.Exit.{yes, no}
 use denote.Signature.{Signature, plain, namedLft}
 use denote.Signature.Struct.{inStruct, makes}
-use Rattle.batch.specs.Writing.{pointed}
+use Rattle.batch.specs.Internal.{pointed}
 use Rattle.batch.specs.declared.Batch.{Batch}
 use Rattle.batch.proofs.Batch as T
 use Rattle.batch.proofs.Batch.Laws as T′

@@ -17,7 +17,8 @@ use denote.Signature.{Signature, plain}
 use denote.Triple.Clauses.{Ended, Clauses, closing}
 use denote.Triple.Spec.{tripleOf}
 use denote.Triple.Statement.{Contract}
-use Rattle.batch.specs.Writing.{pointsOf, Lies}
+use Rattle.batch.specs.Writing.{Lies}
+use Rattle.batch.specs.Internal.{pointBytes}
 use Rattle.batch.proofs.Batch.Laws as T′
 
 -- Locals.
@@ -54,7 +55,7 @@ module _ (wide : ℕ) (numbers : List ℕ → List ℕ) where
   Fits at start count l map = (at + 4 * count ≤ length l) × (count ≤ 126) × Lies wide map (start + count)
 
   abbrev pub Written : ℕ → ℕ → ℕ → List ℕ → List ℕ → ℕ → List ℕ → Type 0
-  Written at start count l map r last = (r ≡ at + 4 * count) × (last ≡ sets l at (pointsOf (numbers map) start count))
+  Written at start count l map r last = (r ≡ at + 4 * count) × (last ≡ sets l at (pointBytes (numbers map) start count))
 
   module _ (w : Width) {M : Type 1} (𝓤 : URA M) where
     abbrev pub at-clauses : Clauses 𝓤 (ended w)

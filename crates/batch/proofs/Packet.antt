@@ -43,7 +43,8 @@ use denote.Exit.{yes}
 use denote.Signature.{plain}
 use Rattle.upload.specs.Plan.{packetFor}
 use Rattle.upload.specs.Parts.{part}
-use Rattle.batch.specs.Writing.{headOf, headed, pointsOf, Lies}
+use Rattle.batch.specs.Writing.{Lies}
+use Rattle.batch.specs.Internal.{headOf, headed, pointBytes}
 use Rattle.batch.specs.declared.Batch.{Batch}
 use Rattle.batch.proofs.Batch as T
 use Rattle.batch.proofs.Batch.Laws as T′
@@ -131,7 +132,7 @@ module _ (w : Width) (points : Name) (wide : ℕ) (numbers : List ℕ → List �
     h₁ = record { buffer = x ys₁; filled = n + 6 }
 
     abbrev ys₂ : List ℕ
-    ys₂ = sets ys₁ (n + 6) (pointsOf (numbers (map .now)) start count)
+    ys₂ = sets ys₁ (n + 6) (pointBytes (numbers (map .now)) start count)
 
     abbrev h₂ : Batch
     h₂ = record { buffer = x ys₂; filled = n + 6 + 4 * count }
@@ -140,7 +141,7 @@ module _ (w : Width) (points : Name) (wide : ℕ) (numbers : List ℕ → List �
     long₁ = length-sets ys n (headOf start count)
 
     long₂ : length ys₂ ≡ length ys
-    long₂ = length-sets ys₁ (n + 6) (pointsOf (numbers (map .now)) start count) ∙ long₁
+    long₂ = length-sets ys₁ (n + 6) (pointBytes (numbers (map .now)) start count) ∙ long₁
 
     -- machine values: the buffer's, the map's, the last batch's
     abbrev s : List ℕ → Val

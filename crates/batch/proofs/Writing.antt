@@ -14,7 +14,8 @@ use Rattle.upload.specs.Plan.{packetFor}
 use Rattle.upload.specs.Parts.{part, Fits}
 use Rattle.upload.proofs.Bytes.{packet-form}
 use Rattle.wire.proofs.Tables.{length-pairs}
-use Rattle.batch.specs.Writing.{headOf, Lies}
+use Rattle.batch.specs.Writing.{Lies}
+use Rattle.batch.specs.Internal.{headOf}
 
 -- The head's three numbers.
 pub head-stores : (l : List ℕ) (at start count : ℕ) {b₁ b₂ b₃ : List ℕ} → b₁ ≡ sets l at (wordBytes 0x3414) → b₂ ≡ sets b₁ (at + 2) (wordBytes (2 + 4 * count))

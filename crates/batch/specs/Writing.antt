@@ -1,34 +1,8 @@
--- Document 01, "Upload plan": "A batch under writing holds the caller's buffer and how much is filled."
-use Prim.Native.Nat.{ℕ, _+_, _*_, _%_, _≤_}
+-- Maps lent to the functions that write a batch.
+use Prim.Native.Nat.{ℕ, _*_, _%_, _≤_}
 use mathlib.Core.Path.{_≡_}
-use mathlib.Core.List.{List, _++_}
-use lib.ListN.{length, take, drop}
-use lib.Seq.{sets}
-use denote.Ref.{now, at-last}
-use Rattle.wire.specs.Numbers.{wordBytes}
-use Rattle.wire.specs.Tables.{bytes}
-use Rattle.batch.specs.declared.Batch.{Batch}
-
--- What a packet begins with: header 14h and opcode 34h, length, start.
-abbrev pub headOf : ℕ → ℕ → List ℕ
-headOf start count = wordBytes 0x3414 ++ wordBytes (2 + 4 * count) ++ wordBytes start
-
--- The same buffer with a packet's head behind what was filled.
-abbrev pub headed : Batch → ℕ → ℕ → Batch
-headed b start count =
-    record { buffer = at-last (b .buffer) (sets (now (b .buffer)) (b .filled) (headOf start count)); filled = b .filled + 6 }
-
--- The bytes of a map's points, count of them from start on.
-abbrev pub pointsOf : List ℕ → ℕ → ℕ → List ℕ
-pointsOf map start count = bytes (take (2 * count) (drop (2 * start) map))
-
--- The same buffer with such points behind what was filled.
-abbrev pub pointed : Batch → List ℕ → ℕ → ℕ → Batch
-pointed b map start count =
-    record {
-      buffer = at-last (b .buffer) (sets (now (b .buffer)) (b .filled) (pointsOf map start count));
-      filled = b .filled + 4 * count;
-    }
+use mathlib.Core.List.{List}
+use lib.ListN.{length}
 
 -- The first m points lie in a map that is lent as so many numbers a point: two of 16 bits, or four bytes.
 abbrev pub Lies : ℕ → List ℕ → ℕ → Type 0

@@ -7,7 +7,8 @@ ghost use lib.Seq.{sets};
 ghost use Rattle.wire.specs.Tables.{words};
 ghost use Rattle.upload.specs.Plan.{packetFor};
 ghost use Rattle.upload.specs.Parts.{part};
-ghost use Rattle.batch.specs.Writing.{headOf, headed, pointsOf, pointed, Lies};
+ghost use Rattle.batch.specs.Writing.{Lies};
+ghost use Rattle.batch.specs.Internal.{headOf, headed, pointBytes, pointed};
 
 // The caller's buffer and how much of it is filled.
 struct Batch<'a> {
@@ -49,7 +50,7 @@ fn head<'a>(batch: Batch<'a>, start: usize, count: usize) -> Batch<'a>
 // So many points of a map of 16-bit numbers: where the next packet goes.
 fn points_at(buffer: &mut [u8], at: usize, wanted: &[u16], start: usize, count: usize) -> usize
     requires { ⌜ (at + 4 * count ≤ length (now buffer)) × (count ≤ 126) × Lies 2 (now wanted) (start + count) ⌝ }
-    ensures { λ r. ⌜ (r ≡ at + 4 * count) × (now (buffer .exit) ≡ sets (now (buffer .entry)) at (pointsOf (now (wanted .entry)) start count)) ⌝ }
+    ensures { λ r. ⌜ (r ≡ at + 4 * count) × (now (buffer .exit) ≡ sets (now (buffer .entry)) at (pointBytes (now (wanted .entry)) start count)) ⌝ }
 {
     tables::words_out(&mut buffer[at..], wanted, 2 * start, 2 * count);
     at + 4 * count
@@ -71,7 +72,7 @@ fn points<'a, 'b>(batch: Batch<'a>, wanted: &'b [u16], start: usize, count: usiz
 // So many points of a map that is lent as bytes: where the next packet goes.
 fn bytes_at(buffer: &mut [u8], at: usize, wanted: &[u8], start: usize, count: usize) -> usize
     requires { ⌜ (at + 4 * count ≤ length (now buffer)) × (count ≤ 126) × Lies 4 (now wanted) (start + count) ⌝ }
-    ensures { λ r. ⌜ (r ≡ at + 4 * count) × (now (buffer .exit) ≡ sets (now (buffer .entry)) at (pointsOf (words (now (wanted .entry))) start count)) ⌝ }
+    ensures { λ r. ⌜ (r ≡ at + 4 * count) × (now (buffer .exit) ≡ sets (now (buffer .entry)) at (pointBytes (words (now (wanted .entry))) start count)) ⌝ }
 {
     wire::copy(buffer, at, wanted, 4 * start, 4 * count);
     at + 4 * count

@@ -1,5 +1,7 @@
 // Reads each bench packet of document 01, says what it found, and makes the packet again from its reading; then plans the uploads of its bench maps.
 use packet::Reading;
+ghost use Prim.Native.Nat.{_<_};
+ghost use lib.ListN.{length};
 
 fn main() {
     present(b"");
@@ -26,6 +28,10 @@ fn main() {
     // Points 0 and 2 differ; points 0 and 3 differ.
     present_plan(&[0, 0, 0, 0, 0, 0, 0, 0], &[1, 2, 0, 0, 3, 4, 0, 0]);
     present_plan(&[0, 0, 0, 0, 0, 0, 0, 0], &[1, 2, 0, 0, 0, 0, 3, 4]);
+    io::write_all(1, b"lengths and points that planning refuses\n");
+    present_refusals(
+        b"\x00\x00\x08\x00\x08\x00\x80\x0f\xc1\x07\x60\x1f\xc1\x07\x08\x00\x08\x00\x80\x0f\xc1\x07\x60\x1f\x03\x00\x08\x00\x08\x00\x80\x0f\xc1\x07\x60\x1f\x04\x00\x07\x00\x08\x00\x80\x0f\xc1\x07\x60\x1f\x04\x00\x09\x00\x08\x00\x80\x0f\xc1\x07\x60\x1f\x04\x00\x08\x00\x07\x00\x80\x0f\xc1\x07\x60\x1f\x04\x00\x08\x00\x09\x00\x80\x0f\xc1\x07\x60\x1f\x04\x00\x08\x00\x08\x00\x7f\x0f\xc1\x07\x60\x1f\x04\x00\x08\x00\x08\x00\x81\x0f\xc1\x07\x60\x1f\x04\x00\x08\x00\x08\x00\x80\x0f\xc0\x07\x60\x1f\x04\x00\x08\x00\x08\x00\x80\x0f\xc2\x07\x60\x1f\x04\x00\x08\x00\x08\x00\x80\x0f\xc1\x07\x5f\x1f\x04\x00\x08\x00\x08\x00\x80\x0f\xc1\x07\x60\x1f",
+    );
 }
 
 // The plan for a map of four points: its packets, its bytes and the batch.
@@ -40,6 +46,96 @@ fn present_plan(held: &[u16], wanted: &[u16]) {
     io::write_all(1, b"\n ");
     show::bytes(&batch, a.bytes);
     io::write_all(1, b"\n");
+}
+
+// Numbers of points that no map has, and each lent list once too short or too long; at last all is right. A row of the script has the number of
+// points and the lengths of held, wanted, plan, room and batch.
+fn present_refusals(script: &[u8]) {
+    let map = [0u16; 9];
+    let mut plan = [7u16; 3969];
+    let mut room = [7u32; 1986];
+    let mut batch = [7u8; 8032];
+    let mut at = 0;
+    while at < script.len() {
+        plan_part(script, at, &map, &mut plan, &mut room, &mut batch);
+        at += 12;
+    }
+}
+
+// One plan on parts that are no longer than the lists, held and wanted being parts of one map.
+fn plan_part(
+    script: &[u8],
+    at: usize,
+    map: &[u16],
+    plan: &mut [u16],
+    room: &mut [u32],
+    batch: &mut [u8],
+)
+    requires { ⌜ at < length (now script) ⌝ }
+{
+    let points = wire::word(script, at);
+    let h = wire::word(script, at + 2);
+    let w = wire::word(script, at + 4);
+    let p = wire::word(script, at + 6);
+    let r = wire::word(script, at + 8);
+    let b = wire::word(script, at + 10);
+    if map.len() < h {
+        return;
+    }
+    if map.len() < w {
+        return;
+    }
+    if plan.len() < p {
+        return;
+    }
+    if room.len() < r {
+        return;
+    }
+    if batch.len() < b {
+        return;
+    }
+    try_plan(
+        points as u32,
+        &map[..h],
+        &map[..w],
+        &mut plan[..p],
+        &mut room[..r],
+        &mut batch[..b],
+    );
+}
+
+fn try_plan(
+    points: u32,
+    held: &[u16],
+    wanted: &[u16],
+    plan: &mut [u16],
+    room: &mut [u32],
+    batch: &mut [u8],
+) {
+    let a = planner16::plan(points, held, wanted, plan, room, batch);
+    print_number(b"  status ", a.status as u64);
+    print_number(b", packets ", a.packets as u64);
+    print_number(b", bytes ", a.bytes as u64);
+    print_number(b"; left ", first_of(plan));
+    print_number(b" ", first_long(room));
+    print_number(b" ", wire::byte(batch, 0) as u64);
+    io::write_all(1, b"\n");
+}
+
+fn first_of(list: &[u16]) -> u64 {
+    if 0 < list.len() { wide(list[0]) } else { 0 }
+}
+
+fn first_long(list: &[u32]) -> u64 {
+    if 0 < list.len() { wider(list[0]) } else { 0 }
+}
+
+fn wide(x: u16) -> u64 {
+    x as u64
+}
+
+fn wider(x: u32) -> u64 {
+    x as u64
 }
 
 // One packet: its bytes, what reading gives, and the bytes made again.

@@ -1,3 +1,2 @@
 -- The one statement about the table of bench packets.
 pub mod Holds
-pub mod Entry

@@ -2,14 +2,12 @@
 -- unless said." Each row of a packet: the packets before, the packet, the status, all bytes of the reply, and the whole state after. Each row
 -- of a plan: the number of points, held and wanted, the whole answer, and all of the three lists that planning leaves.
 use Prim.Native.Nat.{ℕ, _+_}
-use mathlib.Core.Bool.{Bool, true, false, _&&_}
-use mathlib.Core.List.{List, [], _∷_, _++_}
-use lib.ListN.{length, drop, set, replicate}
-use lib.Dec.{eqb}
+use mathlib.Core.List.{List, [], _∷_}
+use lib.ListN.{set, replicate}
 use Rattle.settings.specs.Reset.{resetMap}
 use Rattle.controller.specs.State.{State, resetState}
-use Rattle.controller.specs.Step.{Out, step}
-use Rattle.upload.specs.Planning.{Sheets, sheets, PlanOut, planned}
+use Rattle.controller.specs.Step.{step}
+use Rattle.upload.specs.Planning.{Sheets, sheets}
 
 pub record PacketRow : Type 0 where
   pub before : List (List ℕ)
@@ -29,9 +27,9 @@ pub record PlanRow : Type 0 where
   pub room : List ℕ
   pub batch : List ℕ
 
-pub data Row : Type 0 where
-  packets : PacketRow → Row
-  plans : PlanRow → Row
+pub data BenchRow : Type 0 where
+  packets : PacketRow → BenchRow
+  plans : PlanRow → BenchRow
 
 -- A reply buffer of 512 bytes whose pattern shows what was written.
 abbrev pub buffer : List ℕ
@@ -78,14 +76,14 @@ withGain place v =
       gains = set (resetState .gains) place v;
     }
 
-abbrev pub row : List ℕ → ℕ → List ℕ → State → Row
+abbrev pub row : List ℕ → ℕ → List ℕ → State → BenchRow
 row packet status reply after = packets (record { before = []; packet = packet; status = status; reply = reply; after = after })
 
 -- A refused packet, with no reply asked for.
-abbrev pub refused : List ℕ → ℕ → Row
+abbrev pub refused : List ℕ → ℕ → BenchRow
 refused packet number = row packet number [] resetState
 
-abbrev pub rows : List Row
+abbrev pub rows : List BenchRow
 rows =
     -- * empty: 2. * `24 11`: 2.
     refused [] 2
@@ -134,42 +132,3 @@ rows =
           ∷ replicate 8012 0xA5;
     })
     ∷ []
-
-abbrev pub sameList : List ℕ → List ℕ → Bool
-sameList [] [] = true
-sameList [] (y ∷ ys) = false
-sameList (x ∷ xs) [] = false
-sameList (x ∷ xs) (y ∷ ys) = eqb x y && sameList xs ys
-
-abbrev pub sameState : State → State → Bool
-sameState s t =
-    sameList (s .block) (t .block)
-    && sameList (s .staged) (t .staged)
-    && sameList (s .live) (t .live)
-    && sameList (s .gains) (t .gains)
-
--- What a packet gave is what the row says.
-abbrev pub agrees : PacketRow → Out → Bool
-agrees r o =
-    eqb (o .status) (r .status)
-    && eqb (o .size) (length (r .reply))
-    && sameList (o .reply) (r .reply ++ drop (length (r .reply)) buffer)
-    && sameState (o .state) (r .after)
-
--- What planning gave is what the row says.
-abbrev pub plansAs : PlanRow → PlanOut → Bool
-plansAs r o =
-    eqb (o .status) (r .status)
-    && eqb (o .packets) (r .packets)
-    && eqb (o .bytes) (r .bytes)
-    && sameList (o .left .plan) (r .plan)
-    && sameList (o .left .room) (r .room)
-    && sameList (o .left .batch) (r .batch)
-
-abbrev pub holds : Row → Bool
-holds (packets r) = agrees r (step (r .packet) (stateOf (r .before) resetState) buffer)
-holds (plans r) = plansAs r (planned (r .n) (r .held) (r .wanted) blank)
-
-abbrev pub allHold : List Row → Bool
-allHold [] = true
-allHold (r ∷ rs) = holds r && allHold rs

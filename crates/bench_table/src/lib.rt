@@ -1,1 +1,8 @@
-// Document 01's starred bench packets, as one table proved by one computed test (see specs/ and proofs/).
+// Document 01's starred bench packets and plans, as one table proved by one computed test.
+ghost use Rattle.bench_table.specs.Table.{rows};
+ghost use Rattle.bench_table.specs.Holds.{EachHolds};
+
+// Nothing to run: its contract is the table, each row of which holds of both families' entries.
+pub fn rows_hold()
+    ensures { λ _. ⌜ EachHolds rows ⌝ }
+{}

@@ -18,7 +18,7 @@ use Rattle.opcode.specs.Options.{optionsIn, isRead}
 use Rattle.opcode.specs.Commands.{commandOf}
 use Rattle.opcode.specs.Judgement.{judgement}
 use Rattle.opcode.specs.Allowed.{WriteData, ReadData}
-use Rattle.opcode.proofs.Accepts.Tests.{Numbered, first-silent, silent-first, and-left, and-right, told}
+use Rattle.wire.proofs.Tests.{Numbered, first-silent, silent-first, and-left, and-right, told}
 use Rattle.opcode.proofs.Accepts.Fields.{All, takes-within}
 use Rattle.opcode.proofs.Accepts.Reads.{silent-read}
 use Rattle.opcode.proofs.Accepts.Writes.{silent-write}
@@ -30,7 +30,7 @@ use Rattle.settings.specs.Layout.{columnsAt, rowsAt, stagedShape, enable, liveS
 use Rattle.settings.specs.Ranges.{right, fieldsOf, pictureFields, deviceFields, shapeRight, settingsRight}
 use Rattle.controller.specs.Commands.{runsPast}
 use Rattle.controller.specs.Step.{reads, readAndPlaced, decision}
-use Rattle.controller.specs.Granted.{PointsWrite, GainsWrite}
+use Rattle.controller.specs.Internal.{PointsWrite, GainsWrite}
 
 -- ---- The number of a packet: the first of reading's refusals, and then 12.
 

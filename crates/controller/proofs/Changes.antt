@@ -15,7 +15,7 @@ use Rattle.opcode.specs.Options.{optionsIn, isRead}
 use Rattle.opcode.specs.Commands.{commandOf, fixed}
 use Rattle.opcode.specs.Judgement.{judgement}
 use Rattle.opcode.specs.Allowed.{WriteData, Allowed}
-use Rattle.opcode.proofs.Accepts.Tests.{first-silent}
+use Rattle.wire.proofs.Tests.{first-silent}
 use Rattle.opcode.proofs.Accepts.Commands.{of-carried}
 use Rattle.opcode.proofs.Accepts.Writes.{silent-write, silent-length}
 use Rattle.packet.specs.Frame.{headerOf, opcodeOf, place, dataSize, dataOf}
@@ -24,14 +24,13 @@ use Rattle.settings.proofs.Fits.{place-fits, write-long}
 use Rattle.controller.specs.State.{State, stopped}
 use Rattle.controller.specs.Commands.{shapeBytes, writeShape, applyBlock, writeSmooth, blockAfter, written}
 use Rattle.controller.specs.Step.{readAndPlaced, decision, numberOf, step}
-use Rattle.controller.specs.Demands.{Lent}
 use Rattle.controller.proofs.Bounds.{Commanded, commanded, write-data}
 use Rattle.controller.proofs.Sizes.{smooth-size, fixed-rest}
-use Rattle.controller.proofs.Demands.{lent}
+use Rattle.controller.proofs.Demands.{Running, lent}
 
 -- A packet whose number is 0: what is lent is right, and it is a command.
 pub record Passed (p : List ℕ) (s : State) (reply : List ℕ) : Type 0 where
-  pub lent : Lent s reply
+  pub lent : Running s reply
   pub command : Commanded p (s .block) (opcodeOf p) (optionsIn (headerOf p)) (place (headerOf p)) (dataSize p)
 
 pub passed : (p : List ℕ) (s : State) (reply : List ℕ) → numberOf p s reply ≡ 0 → Passed p s reply

@@ -1,42 +1,33 @@
 -- Demands 1 and 2 of one packet on a state. The number is the first of the list; it is 0 exactly if each test is false, and each test is false
--- exactly if what it tests is right.
-use Prim.Native.Nat.{ℕ, _<_}
-use mathlib.Core.Path.{_≡_, refl, sym, _∙_}
+-- exactly if what it tests is right. Then reset.
+use Prim.Native.Nat.{ℕ, _≤_, _<_}
+use mathlib.Core.Path.{_≡_, refl, sym, ap, _∙_}
 use mathlib.Core.Logic.{_↔_}
-use mathlib.Core.Bool.{Bool, true, false, not, _&&_, _||_}
+use mathlib.Core.Bool.{Bool, true, false, true≢false}
 use mathlib.Core.List.{List, [], _∷_, _++_}
 use native.Mathlib.Omega.{arith}
 use native.Mathlib.Decide.{ℕ-discrete}
-use borrow.Author.Tests.{eqb-true, eq-eqb, ne-eqb, leb-true, le-leb, ltb-false, le-ltb, not-false}
+use borrow.Author.Tests.{eq-eqb, ne-eqb, le-leb, ltb-false, le-ltb}
 use lib.ListN.{length, getD, drop}
 use lib.Seq.{drop-at}
-use lib.Dec.{eqb, leb}
+use lib.Dec.{eqb}
 use Rattle.wire.specs.First.{first}
 use Rattle.wire.specs.Buffers.{over}
-use Rattle.wire.proofs.Laws.{take-over}
 use Rattle.opcode.specs.Options.{isRead}
 use Rattle.opcode.specs.Judgement.{judgement}
-use Rattle.opcode.proofs.Accepts.Tests.{Silent, Numbered, silent-first, first-silent, and-left, and-right, or-left, or-right}
+use Rattle.wire.proofs.Tests.{told, Silent, Numbered, silent-first, first-silent}
 use Rattle.packet.specs.Frame.{headerOf, opcodeOf, dataOf}
 use Rattle.packet.specs.Reading.{refusals, reading}
 use Rattle.packet.proofs.Frames.{reading-number}
 use Rattle.packet.proofs.Exactly.{exactly}
 use Rattle.settings.specs.Ranges.{settingsRight}
-use Rattle.controller.specs.State.{State, stopped}
+use Rattle.settings.proofs.Allowed.{settings-exactly, reset-allowed}
+use Rattle.controller.specs.State.{State, lengthsRight, stopped, ResetOut, reset}
 use Rattle.controller.specs.Commands.{runsPast}
-use Rattle.controller.specs.Step.{reads, readAndPlaced, decision, stepRefusals, numberOf, replyTo, step}
-use Rattle.controller.specs.Demands.{Demand1, Demand2, Lent, Placed, Accepted}
-use Rattle.controller.proofs.Steps.{decision-number, step-read, step-written}
-
-pub demand1 : (p : List ℕ) (s : State) (reply : List ℕ) → Demand1 p s reply
-unfolding step numberOf over
-demand1 p s reply =
-    record {
-      number = refl;
-      unchanged = λ h. rw (ne-eqb (numberOf p s reply) 0 h);
-      written = take-over (replyTo (numberOf p s reply) p s) reply;
-      behind = drop-at (replyTo (numberOf p s reply) p s) _ _ refl;
-    }
+use Rattle.controller.specs.Step.{reads, readAndPlaced, decision, stepRefusals, numberOf, replyTo, Out, out, step}
+use Rattle.controller.specs.Demands.{StateLent, LentRight, Demand1, Demand2, Placed, Accepted, Resets}
+use Rattle.controller.proofs.Bounds.{placed-number}
+use Rattle.controller.proofs.Steps.{decision-number, step-stopped, step-refused, step-read, step-written}
 
 -- Tests of lists that stand one behind the other.
 silent-left : (a b : List (ℕ × Bool)) → Silent (a ++ b) → Silent a
@@ -59,50 +50,44 @@ refusals-numbered : (p : List ℕ) → Numbered (refusals p)
 unfolding judgement
 refusals-numbered p = omega arith
 
--- Refusal 1: none of its six tests fails.
-record AllTrue (a b c d e f : Bool) : Type 0 where
-  a-true : a ≡ true
-  b-true : b ≡ true
-  c-true : c ≡ true
-  d-true : d ≡ true
-  e-true : e ≡ true
-  f-true : f ≡ true
+-- Refusal 1: none of its tests fails.
+pub state-lent : (s : State) → (lengthsRight s ≡ true) ↔ StateLent s
+state-lent s = (
+  λ e. record { block = search (told, e); staged = search (told, e); live = search (told, e); gains = search (told, e) },
+  λ l. rw (eq-eqb _ _ (l .block), eq-eqb _ _ (l .staged), eq-eqb _ _ (l .live), eq-eqb _ _ (l .gains)),
+)
 
-all-true : (a b c d e f : Bool) → (not (a && b && c && d && e) || not f) ≡ false → AllTrue a b c d e f
-all-true a b c d e f h =
-    let l : a && b && c && d && e ≡ true = not-false (a && b && c && d && e) (or-left (not (a && b && c && d && e)) (not f) h) in
-    let m : a && b && c && d ≡ true = and-left (a && b && c && d) e l in
-    let n : a && b && c ≡ true = and-left (a && b && c) d m in
-    let o : a && b ≡ true = and-left (a && b) c n in
-    record {
-      a-true = and-left a b o;
-      b-true = and-right a b o;
-      c-true = and-right (a && b) c n;
-      d-true = and-right (a && b && c) d m;
-      e-true = and-right (a && b && c && d) e l;
-      f-true = not-false f (or-right (not (a && b && c && d && e)) (not f) h);
-    }
+pub record Running (s : State) (reply : List ℕ) : Type 0 where
+  pub tables : StateLent s
+  pub room : 512 ≤ length reply
+  pub settings : settingsRight (s .block) ≡ true
 
-pub lent : (s : State) (reply : List ℕ) → stopped s reply ≡ false → Lent s reply
+pub lent : (s : State) (reply : List ℕ) → stopped s reply ≡ false → Running s reply
 unfolding stopped
 lent s reply e =
-    let t =
-    all-true (eqb (length (s .block)) 1024) (eqb (length (s .staged)) 3968) (eqb (length (s .live)) 3968)
-    (eqb (length (s .gains)) 6048) (leb 512 (length reply)) (settingsRight (s .block)) e
-    in
+    let lengths : lengthsRight s ≡ true = search (told, e) in
+    record { tables = state-lent s .0 lengths; room = search (told, e); settings = search (told, e) }
+
+pub runs : (s : State) (reply : List ℕ) → Running s reply → stopped s reply ≡ false
+unfolding stopped
+runs s reply l = rw (state-lent s .1 (l .tables), le-leb _ _ (l .room), l .settings)
+
+-- Its test of the settings, as what is allowed.
+pub running-right : {s : State} {reply : List ℕ} → Running s reply → LentRight s reply
+running-right {s} l =
     record {
-      block = eqb-true _ _ (t .a-true);
-      staged = eqb-true _ _ (t .b-true);
-      live = eqb-true _ _ (t .c-true);
-      gains = eqb-true _ _ (t .d-true);
-      room = leb-true _ _ (t .e-true);
-      settings = t .f-true;
+      tables = l .tables;
+      room = l .room;
+      settings = settings-exactly (s .block) (l .tables .block) .0 (l .settings);
     }
 
-runs : (s : State) (reply : List ℕ) → Lent s reply → stopped s reply ≡ false
-unfolding stopped
-runs s reply l =
-    rw (eq-eqb _ _ (l .block), eq-eqb _ _ (l .staged), eq-eqb _ _ (l .live), eq-eqb _ _ (l .gains), le-leb _ _ (l .room), l .settings)
+pub right-running : {s : State} {reply : List ℕ} → LentRight s reply → Running s reply
+right-running {s} l =
+    record {
+      tables = l .tables;
+      room = l .room;
+      settings = settings-exactly (s .block) (l .tables .block) .1 (l .settings);
+    }
 
 -- Refusal 12.
 placed : (p block : List ℕ) → runsPast (opcodeOf p) (reads p) (dataOf p) block ≡ false → Placed p block
@@ -144,31 +129,76 @@ fits p block h =
           ])
     ]
 
+-- What follows reading.
+abbrev tests : List ℕ → State → List (ℕ × Bool)
+tests p s = (12, runsPast (opcodeOf p) (reads p) (dataOf p) (s .block)) ∷ []
+
 -- A packet is accepted exactly if what is lent is right, its frame is sound, its data is allowed and its start and count fit.
 accepted-exactly : (p : List ℕ) → ((k : ℕ) → getD p k 0 < 256) → (s : State) (reply : List ℕ) → (step p s reply .status ≡ 0) ↔ Accepted p s reply
 unfolding step numberOf
 accepted-exactly p bytes s reply = (to, from)
   where
-    tests : List (ℕ × Bool)
-    tests = (12, runsPast (opcodeOf p) (reads p) (dataOf p) (s .block)) ∷ []
-
     to : first (stepRefusals p s reply) ≡ 0 → Accepted p s reply
     to e =
         let q = first-silent (stepRefusals p s reply) (numbered p s reply) e in
         record {
-          lent = lent s reply (q .0);
-          taken = exactly p bytes .0 (reading-number p ∙ silent-first (refusals p) (silent-left (refusals p) tests (q .1)));
-          placed = placed p (s .block) (silent-right (refusals p) tests (q .1) .0);
+          lent = running-right (lent s reply (q .0));
+          taken = exactly p bytes .0 (reading-number p ∙ silent-first (refusals p) (silent-left (refusals p) (tests p s) (q .1)));
+          placed = placed p (s .block) (silent-right (refusals p) (tests p s) (q .1) .0);
         }
 
     from : Accepted p s reply → first (stepRefusals p s reply) ≡ 0
     from a =
         silent-first (stepRefusals p s reply) (
-          runs s reply (a .lent),
-          silent-both (refusals p) tests
+          runs s reply (right-running (a .lent)),
+          silent-both (refusals p) (tests p s)
               (first-silent (refusals p) (refusals-numbered p) (sym (reading-number p) ∙ exactly p bytes .1 (a .taken)))
               (fits p (s .block) (a .placed), tt),
         )
+
+-- The first of two lists that stand one behind the other.
+first-left : (a b : List (ℕ × Bool)) → (first a ≡ 0 → ⊥) → first (a ++ b) ≡ first a
+first-left [] b h = absurd (h refl)
+first-left ((k, true) ∷ a) b h = refl
+first-left ((k, false) ∷ a) b h = first-left a b h
+
+first-right : (a b : List (ℕ × Bool)) → Silent a → first (a ++ b) ≡ first b
+first-right [] b s = refl
+first-right (t ∷ a) b s = rw (s .0) (first-right a b (s .1))
+
+pub demand1 : (p : List ℕ) (s : State) (reply : List ℕ) → Demand1 p s reply (step p s reply)
+unfolding step numberOf over
+demand1 p s reply =
+    record {
+      number = refl;
+      one = (λ e l. placed-number p (s .block) .not-1 (sym (running l) ∙ e), λ wrong. ap (λ (o : Out). o .status) (halted wrong));
+      from-reading = λ l some.
+          running l ∙ first-left (refusals p) (tests p s) (λ e. some (reading-number p ∙ e)) ∙ sym (reading-number p);
+      twelve = λ l none past.
+          running l
+          ∙ first-right (refusals p) (tests p s) (first-silent (refusals p) (refusals-numbered p) (sym (reading-number p) ∙ none))
+          ∙ runs-on past (runsPast (opcodeOf p) (reads p) (dataOf p) (s .block)) refl;
+      unchanged = λ h. rw (ne-eqb (numberOf p s reply) 0 h);
+      stopped = halted;
+      refused = λ l h.
+          step-refused p s reply (runs s reply (right-running l)) (numberOf p s reply) h
+          (decision-number p (s .block) ∙ sym (running l));
+      behind = drop-at (replyTo (numberOf p s reply) p s) _ _ refl;
+    }
+  where
+    running : LentRight s reply → first (stepRefusals p s reply) ≡ first (readAndPlaced p (s .block))
+    running l = rw (runs s reply (right-running l))
+
+    halted : (LentRight s reply → ⊥) → step p s reply ≡ out 1 0 s reply
+    halted wrong = go (stopped s reply) refl
+      where
+        go : (b : Bool) → stopped s reply ≡ b → step p s reply ≡ out 1 0 s reply
+        go true e = step-stopped p s reply e
+        go false e = absurd (wrong (running-right (lent s reply e)))
+
+    runs-on : (Placed p (s .block) → ⊥) → (b : Bool) → runsPast (opcodeOf p) (reads p) (dataOf p) (s .block) ≡ b → first (tests p s) ≡ 12
+    runs-on past true e = rw e
+    runs-on past false e = absurd (past (placed p (s .block) e))
 
 -- An accepted packet's decision is 0.
 pub decided : (p : List ℕ) (s : State) (reply : List ℕ) → step p s reply .status ≡ 0
@@ -179,14 +209,39 @@ decided p s reply e =
     (q .0, decision-number p (s .block) ∙ silent-first (readAndPlaced p (s .block)) (q .1))
 
 -- Demand 2: accepted exactly if the rules allow it, and then state and reply are those of the command.
-pub demand2 : (p : List ℕ) → ((k : ℕ) → getD p k 0 < 256) → (s : State) (reply : List ℕ) → Demand2 p s reply
+pub demand2 : (p : List ℕ) → ((k : ℕ) → getD p k 0 < 256) → (s : State) (reply : List ℕ) → Demand2 p s reply (step p s reply)
 demand2 p bytes s reply =
     record {
       exactly = accepted-exactly p bytes s reply;
       writes = λ a w.
           let d = decided p s reply (accepted-exactly p bytes s reply .1 a) in
           step-written p s reply (d .0) (d .1) (ne-eqb (isRead (headerOf p)) 1 (omega arith));
-      reads-back = λ a r.
+      reads = λ a r.
           let d = decided p s reply (accepted-exactly p bytes s reply .1 a) in
           step-read p s reply (d .0) (d .1) (eq-eqb (isRead (headerOf p)) 1 r);
     }
+
+-- ---- Reset.
+
+pub resets : (s : State) {o : ResetOut} → o ≡ reset s → Resets s o
+unfolding reset
+resets s {o} same = go (lengthsRight s) refl
+  where
+    go : (b : Bool) → lengthsRight s ≡ b → Resets s o
+    go true e =
+        rw (same, e)
+        (record {
+          outcome = rw e;
+          exactly = (λ z. state-lent s .0 e, λ l. refl);
+          wrong-length = λ wrong. absurd (wrong (state-lent s .0 e));
+          in-range = λ z. reset-allowed;
+        })
+    go false e =
+        let none : StateLent s → ⊥ = λ l. true≢false (sym (state-lent s .1 l) ∙ e) in
+        rw (same, e)
+        (record {
+          outcome = rw e;
+          exactly = (λ z. absurd (omega arith), λ l. absurd (none l));
+          wrong-length = λ wrong. refl;
+          in-range = λ z. absurd (omega arith);
+        })

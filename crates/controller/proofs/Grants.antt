@@ -15,7 +15,7 @@ use Rattle.reply.specs.Reply.{replyBytes}
 use Rattle.controller.specs.State.{State, state, stopped}
 use Rattle.controller.specs.Commands.{written, dataBack}
 use Rattle.controller.specs.Step.{reads, decision, emptyReply, out, step}
-use Rattle.controller.specs.Granted.{Granted, PointsWrite, GainsWrite}
+use Rattle.controller.specs.Internal.{Granted, PointsWrite, GainsWrite}
 use Rattle.controller.proofs.Bounds.{PointsRead, GainsRead, points-write, points-read, gains-write, gains-read, command, commanded, refused}
 use Rattle.controller.proofs.Steps.{step-refused, step-read, step-written}
 use Rattle.controller.proofs.Demands.{lent}
@@ -59,7 +59,7 @@ module _ (p : List ℕ) (s : State) (reply : List ℕ) (runs : stopped s reply �
     granted =
         let c = commanded p (s .block) op o at size told in
         let l = lent s reply runs in
-        rw (c .same-part) (record { judged = c .judged; fits = c .within; settings = l .settings; long = l .block })
+        rw (c .same-part) (record { judged = c .judged; fits = c .within; settings = l .settings; long = l .tables .block })
 
     accepted : decision p (s .block) .number ≡ 0
     accepted = sym (ap (λ (a : Answer). a .number) told)

@@ -20,7 +20,7 @@ use Rattle.opcode.specs.Options.{optionsIn, isRead}
 use Rattle.opcode.specs.Commands.{commandOf, fixed}
 use Rattle.opcode.specs.Judgement.{judgement}
 use Rattle.opcode.specs.Allowed.{Rising, WriteData}
-use Rattle.opcode.proofs.Accepts.Tests.{told}
+use Rattle.wire.proofs.Tests.{told}
 use Rattle.opcode.proofs.Accepts.Lists.{words-part, rising-rise}
 use Rattle.packet.specs.Frame.{headerOf, opcodeOf, dataOf}
 use Rattle.packet.specs.Points.{writePoints, startOf, pointsOf}
@@ -32,8 +32,9 @@ use Rattle.settings.proofs.Stays.{Parts, parts, whole, kept, kept-shape, all-ri
 use Rattle.controller.specs.State.{State}
 use Rattle.controller.specs.Commands.{gainsWords, gainsInto, writeGains, shapeBytes, writeShape, applyBlock, applyLive, writeSmooth, blockAfter, written, runsPast}
 use Rattle.controller.specs.Step.{numberOf, replyTo, step}
-use Rattle.controller.specs.Granted.{PointsWrite, GainsWrite}
-use Rattle.controller.specs.Demands.{Lent}
+use Rattle.controller.specs.Internal.{PointsWrite, GainsWrite}
+use Rattle.controller.specs.Demands.{LentRight}
+use Rattle.controller.proofs.Demands.{Running, running-right, right-running}
 use Rattle.controller.proofs.Bounds.{write-data, points-write, gains-write}
 use Rattle.controller.proofs.Sizes.{smooth-size, fixed-rest}
 use Rattle.controller.proofs.Changes.{Way, way, changed, changed-long, enabled, enabled-long, write-allowed}
@@ -254,42 +255,48 @@ over-long s buffer = simp (length-append, length-drop) (omega arith)
 -- ---- The state.
 
 written-lent : (op o : ℕ) (d : List ℕ) (s : State) (reply reply′ : List ℕ) → ((k : ℕ) → getD d k 0 < 256) → isRead o ≡ 0
-    → first (judgement op o d) ≡ 0 → runsPast op (eqb (isRead o) 1) d (s .block) ≡ false → 512 ≤ length reply′ → Lent s reply
-    → Lent (written op d s) reply′
+    → first (judgement op o d) ≡ 0 → runsPast op (eqb (isRead o) 1) d (s .block) ≡ false → 512 ≤ length reply′ → Running s reply
+    → Running (written op d s) reply′
 unfolding written
 written-lent op o d s reply reply′ bytes h j past room l =
+    let t = l .tables in
     record {
-      block = changed-long (changed op o d (s .block) h j) (l .block);
-      staged =
-          elim (ℕ-discrete op 0x34) [
-            | yes m ↦ rw m (points-long d (s .staged) (points-write o d (s .block) h (rw m at j) (rw m at past) (l .settings)) (l .staged))
-            | no m ↦ rw (ne-eqb op 0x34 m) (l .staged)
-          ];
-      live =
-          elim (ℕ-discrete op 0x36) [
-            | yes a ↦ rw a (live-long d (s .staged) (s .live) (l .staged) (l .live))
-            | no a ↦ rw (ne-eqb op 0x36 a) (l .live)
-          ];
-      gains =
-          elim (ℕ-discrete op 0x2B) [
-            | yes g ↦ rw g (gains-long d (s .gains) (gains-write o d (s .block) h (rw g at j) (rw g at past)) (l .gains))
-            | no g ↦ rw (ne-eqb op 0x2B g) (l .gains)
-          ];
+      tables = record {
+        block = changed-long (changed op o d (s .block) h j) (t .block);
+        staged =
+            elim (ℕ-discrete op 0x34) [
+              | yes m ↦ rw m (points-long d (s .staged) (points-write o d (s .block) h (rw m at j) (rw m at past) (l .settings)) (t .staged))
+              | no m ↦ rw (ne-eqb op 0x34 m) (t .staged)
+            ];
+        live =
+            elim (ℕ-discrete op 0x36) [
+              | yes a ↦ rw a (live-long d (s .staged) (s .live) (t .staged) (t .live))
+              | no a ↦ rw (ne-eqb op 0x36 a) (t .live)
+            ];
+        gains =
+            elim (ℕ-discrete op 0x2B) [
+              | yes g ↦ rw g (gains-long d (s .gains) (gains-write o d (s .block) h (rw g at j) (rw g at past)) (t .gains))
+              | no g ↦ rw (ne-eqb op 0x2B g) (t .gains)
+            ];
+      };
       room = room;
-      settings = settings-stay op o d (s .block) bytes h j (l .block) (l .settings);
+      settings = settings-stay op o d (s .block) bytes h j (t .block) (l .settings);
     }
 
-pub stays-lent : (p : List ℕ) → ((k : ℕ) → getD p k 0 < 256) → (s : State) (reply : List ℕ) → Lent s reply
-    → Lent (step p s reply .state) (step p s reply .reply)
+pub stays-lent : (p : List ℕ) → ((k : ℕ) → getD p k 0 < 256) → (s : State) (reply : List ℕ) → LentRight s reply
+    → LentRight (step p s reply .state) (step p s reply .reply)
 unfolding step
-stays-lent p bytes s reply l = go (way p s reply)
+stays-lent p bytes s reply right = running-right (go (way p s reply))
   where
-    room : 512 ≤ length (step p s reply .reply)
-    room = omega (arith, over-long (replyTo (numberOf p s reply) p s) reply)
+    l : Running s reply
+    l = right-running right
 
-    go : Way p s reply → Lent (step p s reply .state) (step p s reply .reply)
+    room : 512 ≤ length (step p s reply .reply)
+    room = omega (arith, over-long (replyTo (numberOf p s reply) p s) reply, l .room)
+
+    go : Way p s reply → Running (step p s reply .state) (step p s reply .reply)
     go (Way.same e) =
-        rw e (record { block = l .block; staged = l .staged; live = l .live; gains = l .gains; room = room; settings = l .settings })
+        rw e (record { tables = l .tables; room = room; settings = l .settings })
     go (Way.wrote st r a e) =
         rw e
         (written-lent (opcodeOf p) (optionsIn (headerOf p)) (dataOf p) s reply (step p s reply .reply) (bytes-of-data p bytes) (omega arith)

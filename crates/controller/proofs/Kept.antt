@@ -39,4 +39,4 @@ tail-kept p s reply = go (way p s reply)
     go (Way.same e) = rw e
     go (Way.wrote st r a e) =
         rw e
-        (tail-changed (changed (opcodeOf p) (optionsIn (headerOf p)) (dataOf p) (s .block) (omega arith) (a .command .judged)) (a .lent .block))
+        (tail-changed (changed (opcodeOf p) (optionsIn (headerOf p)) (dataOf p) (s .block) (omega arith) (a .command .judged)) (a .lent .tables .block))

@@ -14,3 +14,5 @@ pub mod Kept
 pub mod Live
 pub mod InRange
 pub mod Applied
+pub mod Same
+pub mod Handled

@@ -17,7 +17,8 @@ use Rattle.settings.proofs.Same.{Same, paste-apart}
 use Rattle.controller.specs.State.{State}
 use Rattle.controller.specs.Commands.{written, applyLive}
 use Rattle.controller.specs.Step.{step}
-use Rattle.controller.specs.Demands.{Sent, stateAfterAll, Applies, NoneApplies, LiveKept}
+use Rattle.controller.specs.Demands.{Applies, LiveKept}
+use Rattle.controller.specs.Calls.{Call, stateAfterAll, NoneApplies}
 use Rattle.controller.proofs.Changes.{Way, way, Change, changed}
 
 -- Equal elements make equal parts.
@@ -48,7 +49,7 @@ live-written op d staged live other =
       | no a ↦ rw (ne-eqb op 0x36 a)
     ]
 
-one-kept : (p : List ℕ) (s : State) (reply : List ℕ) → (Applies p s reply → ⊥) → LiveKept s (step p s reply .state)
+pub one-kept : (p : List ℕ) (s : State) (reply : List ℕ) → (Applies p (step p s reply) → ⊥) → LiveKept s (step p s reply .state)
 unfolding written
 one-kept p s reply other = go (way p s reply)
   where
@@ -61,16 +62,16 @@ one-kept p s reply other = go (way p s reply)
           points-kept = live-written (opcodeOf p) (dataOf p) (s .staged) (s .live) not-applied;
           settings-kept =
               shape-changed not-applied
-              (changed (opcodeOf p) (optionsIn (headerOf p)) (dataOf p) (s .block) (omega arith) (a .command .judged)) (a .lent .block);
+              (changed (opcodeOf p) (optionsIn (headerOf p)) (dataOf p) (s .block) (omega arith) (a .command .judged)) (a .lent .tables .block);
         })
 
 chain : {s t u : State} → LiveKept s t → LiveKept t u → LiveKept s u
 chain h k = record { points-kept = h .points-kept ∙ k .points-kept; settings-kept = h .settings-kept ∙ k .settings-kept }
 
-each-kept : {xs : List Sent} {s : State} → NoneApplies xs s → LiveKept s (stateAfterAll xs s)
+each-kept : {xs : List Call} {s : State} → NoneApplies xs s → LiveKept s (stateAfterAll xs s)
 unfolding stateAfterAll
 each-kept NoneApplies.none = record { points-kept = refl; settings-kept = refl }
 each-kept (NoneApplies.next {x} {xs} {s} other rest) = chain (one-kept (x .packet) s (x .reply) other) (each-kept rest)
 
-pub live-kept : (xs : List Sent) (s : State) → NoneApplies xs s → LiveKept s (stateAfterAll xs s)
+pub live-kept : (xs : List Call) (s : State) → NoneApplies xs s → LiveKept s (stateAfterAll xs s)
 live-kept xs s h = each-kept h

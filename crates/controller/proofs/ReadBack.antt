@@ -1,21 +1,25 @@
 -- Every reply that the front end writes reads back as it was meant: its status is at most 12, and its data at most 508 bytes, so that all of
 -- it fits 512 with head and checksum.
-use Prim.Native.Nat.{ℕ, _+_, _*_, _≤_}
-use mathlib.Core.Path.{_≡_, refl}
-use mathlib.Core.Bool.{Bool, true, false, and-false}
-use mathlib.Core.List.{List}
+use Prim.Native.Nat.{ℕ, _+_, _*_, _≤_, _<_}
+use mathlib.Core.Path.{_≡_, refl, sym, ap, _∙_}
+use mathlib.Core.Logic.{_⊎_, inl, inr, ⊎-elim, ⊎-map}
+use mathlib.Core.Bool.{Bool, true, false, _||_, and-false, or-true, true≢false}
+use mathlib.Core.List.{List, []}
 use native.Mathlib.Decide.{ℕ-discrete}
 use native.Mathlib.Omega.{arith}
-use borrow.Author.Tests.{eq-eqb, ne-eqb}
+use borrow.Author.Tests.{eq-eqb, ne-eqb, eqb-true, eqb-false, lt-ltb}
 use lib.ListN.{length, take, drop, length-take}
 use lib.Dec.{eqb}
 use Rattle.wire.specs.First.{first}
 use Rattle.wire.specs.Numbers.{byteAt, wordAt}
+use Rattle.wire.proofs.Laws.{take-over}
 use Rattle.wire.proofs.Tables.{length-halves}
-use Rattle.opcode.specs.Options.{optionsIn, hasSum, isRead}
+use Rattle.wire.proofs.Tests.{told}
+use Rattle.opcode.specs.Options.{optionsIn, hasSum, asksReply, isRead}
 use Rattle.opcode.specs.Commands.{commandOf}
 use Rattle.opcode.specs.Judgement.{judgement}
 use Rattle.packet.specs.Frame.{headerOf, opcodeOf, dataOf}
+use Rattle.reply.specs.Reply.{replyBytes}
 use Rattle.reply.specs.Reading.{sumSize}
 use Rattle.reply.proofs.Laws.{length-reply}
 use Rattle.reply.proofs.ReadsBack.{reads-back}
@@ -23,8 +27,8 @@ use Rattle.settings.specs.Layout.{stagedShape, smoothTable, modeAt, placeOf}
 use Rattle.settings.specs.Ranges.{settingsRight}
 use Rattle.controller.specs.State.{State, stopped}
 use Rattle.controller.specs.Commands.{readGains, readPoints, readShape, readSmooth, blockBack, dataBack, runsPast}
-use Rattle.controller.specs.Step.{numberOf, answers, replyData, replyTo, step}
-use Rattle.controller.specs.Demands.{RepliesAsMeant}
+use Rattle.controller.specs.Step.{reads, numberOf, answers, replyData, replyTo, step}
+use Rattle.controller.specs.Demands.{Asks, Replied}
 use Rattle.controller.proofs.Bounds.{counts, gains-read, points-read, placed-number}
 use Rattle.controller.proofs.Sizes.{back-small}
 use Rattle.controller.proofs.Changes.{passed}
@@ -108,17 +112,56 @@ module _ (p : List ℕ) (s : State) (reply : List ℕ) where
             ]
       ]
 
-pub replies-as-meant : (p : List ℕ) (s : State) (reply : List ℕ) → RepliesAsMeant p s (numberOf p s reply)
-unfolding replyTo
-replies-as-meant p s reply = go (answers (numberOf p s reply) p) refl
+-- A reply is asked for exactly if the test says so.
+either : (a b : Bool) → (a || b) ≡ true → (a ≡ true) ⊎ (b ≡ true)
+either true b e = inl refl
+either false b e = inr e
+
+asks-it : (n : ℕ) (p : List ℕ) → answers n p ≡ true → Asks p × (n ≡ 1 → ⊥)
+asks-it n p e =
+    let some : 0 < length p = search (told, e) in
+    let bits : (reads p || eqb (asksReply (headerOf p)) 1) ≡ true = search (told, e) in
+    let other : eqb n 1 ≡ false = search (told, e) in (
+      record {
+        some = omega arith;
+        bit = ⊎-map (eqb-true (isRead (headerOf p)) 1) (eqb-true (asksReply (headerOf p)) 1) (either (reads p) _ bits);
+      },
+      eqb-false n 1 other,
+    )
+
+answered : (n : ℕ) (p : List ℕ) → Asks p × (n ≡ 1 → ⊥) → answers n p ≡ true
+answered n p a =
+    let bits : (reads p || eqb (asksReply (headerOf p)) 1) ≡ true =
+    ⊎-elim (λ r. rw (eq-eqb (isRead (headerOf p)) 1 r)) (λ r. rw (eq-eqb (asksReply (headerOf p)) 1 r, or-true)) (a .0 .bit) in
+    rw (lt-ltb 0 (length p) (omega (arith, a .0 .some)), bits, ne-eqb n 1 (a .1))
+
+pub replied : (p : List ℕ) (s : State) (reply : List ℕ) → Replied p s (step p s reply)
+unfolding step replyTo
+replied p s reply = go (answers n p) refl
   where
-    go : (b : Bool) → answers (numberOf p s reply) p ≡ b → RepliesAsMeant p s (numberOf p s reply)
-    go false e = RepliesAsMeant.silent (rw e)
+    n : ℕ
+    n = numberOf p s reply
+
+    sum : Bool
+    sum = eqb (hasSum (headerOf p)) 1
+
+    go : (b : Bool) → answers n p ≡ b → Replied p s (step p s reply)
+    go false e =
+        let none : replyTo n p s ≡ [] = rw e in
+        record {
+          asked = (λ h. absurd (omega (arith, ap length none)), λ a. absurd (true≢false (sym (answered n p a) ∙ e)));
+          means = λ h. absurd (omega (arith, ap length none));
+          content = λ h. absurd (omega (arith, ap length none));
+        }
     go true e =
-        let sum : Bool = eqb (hasSum (headerOf p)) 1 in
-        let back = reads-back sum (numberOf p s reply) (replyData (numberOf p s reply) p s) (number-small p s reply)
-        (rw length-reply (fits sum (data-small p s reply))) in
-        RepliesAsMeant.reads-back (rw e (back .reading)) (rw e (back .content))
+        let bytes : replyTo n p s ≡ replyBytes sum n (replyData n p s) = rw e in
+        let back =
+        reads-back sum n (replyData n p s) (number-small p s reply) (rw length-reply (fits sum (data-small p s reply))) in
+        record {
+          asked = (λ h. asks-it n p e, λ a. omega (arith, ap length bytes, length-reply sum n (replyData n p s)));
+          means = λ h. rw (take-over (replyTo n p s) reply, bytes) (back .reading);
+          content = λ h. rw (take-over (replyTo n p s) reply, bytes) (back .content);
+        }
 
 -- No reply is longer than 512 bytes.
 pub size-small : (p : List ℕ) (s : State) (reply : List ℕ) → step p s reply .size ≤ 512

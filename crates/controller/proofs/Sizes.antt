@@ -17,7 +17,7 @@ use Rattle.opcode.specs.Judgement.{judgement, unknown}
 use Rattle.opcode.specs.Options.{isRead}
 use Rattle.opcode.specs.Allowed.{WriteData}
 use Rattle.opcode.proofs.Accepts.{accepts}
-use Rattle.opcode.proofs.Accepts.Tests.{first-silent}
+use Rattle.wire.proofs.Tests.{first-silent}
 use Rattle.opcode.proofs.Accepts.Commands.{_&_, of-carried, of-all}
 use Rattle.settings.specs.Layout.{placeOf, placeIn, places}
 use Rattle.settings.proofs.Fits.{place-fits, write-long}

@@ -1,103 +1,168 @@
--- Demands 1 and 2 of one packet on a state, said apart from the list of refusals.
-use Prim.Native.Nat.{ℕ, _+_, _≤_}
+-- What is demanded of one packet on a state, of whatever an entry answers and leaves (`Out`): that a refusal changes nothing, that a packet is
+-- accepted exactly when the rules allow it and does then what they say, and what follows for replies, ranges, the live side and bytes without a
+-- meaning. What is right is said here apart from the tests that decide it. `Handled` stands in the contracts of the entries.
+use Prim.Native.Nat.{ℕ, _+_, _-_, _*_, _/_, _≤_}
 use mathlib.Core.Path.{_≡_}
-use mathlib.Core.Logic.{_↔_}
+use mathlib.Core.Logic.{_↔_, _⊎_}
 use mathlib.Core.Bool.{true}
 use mathlib.Core.List.{List, [], _∷_}
-use lib.ListN.{length, take, drop}
+use lib.ListN.{length, take, drop, getD, set}
 use lib.Dec.{eqb}
-use Rattle.wire.specs.Numbers.{byteAt, wordAt}
 use Rattle.wire.specs.First.{first}
 use Rattle.wire.specs.Buffers.{over}
-use Rattle.opcode.specs.Options.{isRead, hasSum}
+use Rattle.wire.specs.Numbers.{byteAt, wordAt}
+use Rattle.opcode.specs.Options.{hasSum, asksReply, isRead}
+use Rattle.opcode.specs.Allowed.{two}
 use Rattle.packet.specs.Frame.{headerOf, opcodeOf, dataOf}
+use Rattle.packet.specs.Reading.{reading}
+use Rattle.packet.specs.Points.{acceptedAt, mapAfter}
 use Rattle.packet.specs.Sound.{Taken}
-use Rattle.packet.specs.Points.{startOf, countOf}
 use Rattle.reply.specs.Reply.{replyBytes}
 use Rattle.reply.specs.Reading.{replyReading}
-use Rattle.settings.specs.Layout.{blockSize, shapeSize, stagedShape, liveShape}
-use Rattle.settings.specs.Ranges.{settingsRight}
-use Rattle.settings.specs.Reset.{mapSize, gainsSize}
-use Rattle.controller.specs.State.{State}
-use Rattle.controller.specs.Commands.{third, points, written, dataBack}
-use Rattle.controller.specs.Step.{stepRefusals, emptyReply, replyData, replyTo, out, step}
+use Rattle.settings.specs.Allowed.{SettingsAllowed}
+use Rattle.controller.specs.State.{State, state, ResetOut, resetOut, reset}
+use Rattle.controller.specs.Commands.{written, dataBack}
+use Rattle.controller.specs.Step.{stepRefusals, emptyReply, replyData, Out, out, step}
 
--- "A refused packet changes no setting and no table point; its number is the first that applies in document 01's list; the reply buffer
--- changes only where the reply is written."
-pub record Demand1 (p : List ℕ) (s : State) (reply : List ℕ) : Type 0 where
-  pub number : step p s reply .status ≡ first (stepRefusals p s reply)
-  pub unchanged : (step p s reply .status ≡ 0 → ⊥) → step p s reply .state ≡ s
-  pub written : take (step p s reply .size) (step p s reply .reply) ≡ replyTo (step p s reply .status) p s
-  pub behind : drop (step p s reply .size) (step p s reply .reply) ≡ drop (step p s reply .size) reply
+-- ---- What is lent.
 
--- "Lent lengths: block 1,024; staged and live 3,968 16-bit numbers each (x, y in turn); gains 6,048 (red, green, blue); reply buffer 512 or
--- more", and every setting in its range.
-pub record Lent (s : State) (reply : List ℕ) : Type 0 where
-  pub block : length (s .block) ≡ blockSize
-  pub staged : length (s .staged) ≡ mapSize
-  pub live : length (s .live) ≡ mapSize
-  pub gains : length (s .gains) ≡ gainsSize
+-- The lengths of block and tables: 1,024 bytes, two maps of 1,984 points, and three times 2,016 gains.
+pub record StateLent (s : State) : Type 0 where
+  pub block : length (s .block) ≡ 1024
+  pub staged : length (s .staged) ≡ 3968
+  pub live : length (s .live) ≡ 3968
+  pub gains : length (s .gains) ≡ 6048
+
+-- What refusal 1 asks for: these lengths, room for any reply, and every setting in its range.
+pub record LentRight (s : State) (reply : List ℕ) : Type 0 where
+  pub tables : StateLent s
   pub room : 512 ≤ length reply
-  pub settings : settingsRight (s .block) ≡ true
+  pub settings : SettingsAllowed (s .block)
 
--- "Both need start + count ≤ columns × rows as staged." "start + count ≤ 2,016"
+-- ---- Start and count.
+
+-- The staged shape's points: columns × rows, as they stand in the block.
+abbrev pub stagedPoints : List ℕ → ℕ
+stagedPoints block = two (getD block 9 0) (getD block 10 0) * two (getD block 11 0) (getD block 12 0)
+
+-- The start is a packet's first number; its points are what stands behind it, four bytes each.
+abbrev pub pointsEnd : List ℕ → ℕ
+pointsEnd p = wordAt (dataOf p) 0 + (length (dataOf p) - 2) / 4
+
+-- A start and a count lie within their table: 34h within the staged shape's points, 2Bh within a colour's gains.
 pub record Placed (p : List ℕ) (block : List ℕ) : Type 0 where
-  pub points-written : opcodeOf p ≡ 0x34 → isRead (headerOf p) ≡ 0 → startOf (dataOf p) + countOf (dataOf p) ≤ points block
-  pub points-read : opcodeOf p ≡ 0x34 → isRead (headerOf p) ≡ 1 → startOf (dataOf p) + wordAt (dataOf p) 2 ≤ points block
-  pub gains-written : opcodeOf p ≡ 0x2B → isRead (headerOf p) ≡ 0 → wordAt (dataOf p) 4 + wordAt (dataOf p) 2 ≤ third
-  pub gains-read : opcodeOf p ≡ 0x2B → isRead (headerOf p) ≡ 1 → wordAt (dataOf p) 1 + wordAt (dataOf p) 3 ≤ third
+  pub points-written : opcodeOf p ≡ 0x34 → isRead (headerOf p) ≡ 0 → pointsEnd p ≤ stagedPoints block
+  pub points-read : opcodeOf p ≡ 0x34 → isRead (headerOf p) ≡ 1 → wordAt (dataOf p) 0 + wordAt (dataOf p) 2 ≤ stagedPoints block
+  pub gains-written : opcodeOf p ≡ 0x2B → isRead (headerOf p) ≡ 0 → wordAt (dataOf p) 4 + wordAt (dataOf p) 2 ≤ 2016
+  pub gains-read : opcodeOf p ≡ 0x2B → isRead (headerOf p) ≡ 1 → wordAt (dataOf p) 1 + wordAt (dataOf p) 3 ≤ 2016
+
+-- ---- Demand 1.
+
+pub record Demand1 (p : List ℕ) (s : State) (reply : List ℕ) (o : Out) : Type 0 where
+  -- The number is the first that applies in the list of refusals: 1 exactly if what is lent is not right; else what reading gives; else 12, where a
+  -- start and count run past their table.
+  pub number : o .status ≡ first (stepRefusals p s reply)
+  pub one : (o .status ≡ 1) ↔ (LentRight s reply → ⊥)
+  pub from-reading : LentRight s reply → (reading p .number ≡ 0 → ⊥) → o .status ≡ reading p .number
+  pub twelve : LentRight s reply → reading p .number ≡ 0 → (Placed p (s .block) → ⊥) → o .status ≡ 12
+  -- A refused packet changes no setting and no table point.
+  pub unchanged : (o .status ≡ 0 → ⊥) → o .state ≡ s
+  -- Refusal 1 writes no reply; another writes one without data, if the packet asks for it.
+  pub stopped : (LentRight s reply → ⊥) → o ≡ out 1 0 s reply
+  pub refused : LentRight s reply → (o .status ≡ 0 → ⊥)
+      → o ≡ out (o .status) (length (emptyReply (o .status) p)) s (over (emptyReply (o .status) p) reply)
+  -- The reply buffer changes only where the reply is written.
+  pub behind : drop (o .size) (o .reply) ≡ drop (o .size) reply
+
+-- ---- Demand 2.
 
 -- When a packet is accepted: what is lent is right, its frame is sound and meant for us, its data is allowed, and its start and count lie
 -- within their table.
 pub record Accepted (p : List ℕ) (s : State) (reply : List ℕ) : Type 0 where
-  pub lent : Lent s reply
+  pub lent : LentRight s reply
   pub taken : Taken p
   pub placed : Placed p (s .block)
 
--- "Every reply of the front end reads back as it was meant": nothing is written, or what is written reads back with its status and data.
-pub data RepliesAsMeant (p : List ℕ) (s : State) (number : ℕ) : Type 0 where
-  silent : replyTo number p s ≡ [] → RepliesAsMeant p s number
-  reads-back : replyReading (replyTo number p s) (eqb (hasSum (headerOf p)) 1)
-      ≡ record { number = 0; status = number; place = 3; size = length (replyData number p s) }
-      → take (length (replyData number p s)) (drop 3 (replyTo number p s)) ≡ replyData number p s
-      → RepliesAsMeant p s number
-
--- Packets taken one after another, each with a reply buffer of its own.
-pub record Sent : Type 0 where
-  pub packet : List ℕ
-  pub reply : List ℕ
-
-unfoldable pub stateAfterAll : List Sent → State → State
-stateAfterAll [] s = s
-stateAfterAll (x ∷ xs) s = stateAfterAll xs (step (x .packet) s (x .reply) .state)
-
--- A packet that is an accepted 36h write of 1.
-abbrev pub Applies : List ℕ → State → List ℕ → Type 0
-Applies p s reply = (step p s reply .status ≡ 0) × (opcodeOf p ≡ 0x36) × (isRead (headerOf p) ≡ 0) × (byteAt (dataOf p) 0 ≡ 1)
-
--- No packet of the list applies, each judged on the state that it gets.
-pub data NoneApplies : List Sent → State → Type 0 where
-  none : {s : State} → NoneApplies [] s
-  next : {x : Sent} {xs : List Sent} {s : State}
-      → (Applies (x .packet) s (x .reply) → ⊥) → NoneApplies xs (step (x .packet) s (x .reply) .state) → NoneApplies (x ∷ xs) s
-
--- The live side: the points, and the shape, mode and lists in the block.
-pub record LiveKept (s t : State) : Type 0 where
-  pub points-kept : s .live ≡ t .live
-  pub settings-kept : take shapeSize (drop liveShape (s .block)) ≡ take shapeSize (drop liveShape (t .block))
-
--- "A packet is accepted exactly when document 01 and the guides' tables allow it, and settings, tables and reply are then exactly what they
--- say."
-pub record Demand2 (p : List ℕ) (s : State) (reply : List ℕ) : Type 0 where
-  pub exactly : (step p s reply .status ≡ 0) ↔ Accepted p s reply
+-- Accepted exactly then; a write leaves the command's state, a read the state as it was and the command's data in the reply.
+pub record Demand2 (p : List ℕ) (s : State) (reply : List ℕ) (o : Out) : Type 0 where
+  pub exactly : (o .status ≡ 0) ↔ Accepted p s reply
   pub writes : Accepted p s reply → isRead (headerOf p) ≡ 0
-      → step p s reply ≡ out 0 (length (emptyReply 0 p)) (written (opcodeOf p) (dataOf p) s) (over (emptyReply 0 p) reply)
-  pub reads-back : Accepted p s reply → isRead (headerOf p) ≡ 1
-      → step p s reply
+      → o ≡ out 0 (length (emptyReply 0 p)) (written (opcodeOf p) (dataOf p) s) (over (emptyReply 0 p) reply)
+  pub reads : Accepted p s reply → isRead (headerOf p) ≡ 1
+      → o
       ≡ out 0 (length (replyBytes (eqb (hasSum (headerOf p)) 1) 0 (dataBack (opcodeOf p) (dataOf p) s))) s
       (over (replyBytes (eqb (hasSum (headerOf p)) 1) 0 (dataBack (opcodeOf p) (dataOf p) s)) reply)
 
--- After an accepted apply the live side is the staged side of that moment.
+-- ---- The reply.
+
+-- A packet asks for a reply by its first byte: a read, or bit 6.
+pub record Asks (p : List ℕ) : Type 0 where
+  pub some : 1 ≤ length p
+  pub bit : (isRead (headerOf p) ≡ 1) ⊎ (asksReply (headerOf p) ≡ 1)
+
+-- One is written exactly if it is asked for and the number isn't 1, and it reads back as it was meant: its status, and its data.
+pub record Replied (p : List ℕ) (s : State) (o : Out) : Type 0 where
+  pub asked : (1 ≤ o .size) ↔ (Asks p × (o .status ≡ 1 → ⊥))
+  pub means : 1 ≤ o .size
+      → replyReading (take (o .size) (o .reply)) (eqb (hasSum (headerOf p)) 1)
+      ≡ record { number = 0; status = o .status; place = 3; size = length (replyData (o .status) p s) }
+  pub content : 1 ≤ o .size
+      → take (length (replyData (o .status) p s)) (drop 3 (take (o .size) (o .reply))) ≡ replyData (o .status) p s
+
+-- ---- 36h: the live side is the points, and the shape, mode and lists in the block; enable stands before it.
+
+-- A packet that is an accepted 36h write of so much.
+abbrev pub Sets36 : ℕ → List ℕ → Out → Type 0
+Sets36 v p o = (o .status ≡ 0) × (opcodeOf p ≡ 0x36) × (isRead (headerOf p) ≡ 0) × (byteAt (dataOf p) 0 ≡ v)
+
+abbrev pub Applies : List ℕ → Out → Type 0
+Applies = Sets36 1
+
+-- 1 makes the staged side of that moment live, and enable is 1.
 pub record Applied (s t : State) : Type 0 where
   pub points-live : t .live ≡ s .staged
-  pub settings-live : take shapeSize (drop liveShape (t .block)) ≡ take shapeSize (drop stagedShape (s .block))
+  pub settings-live : take 193 (drop 202 (t .block)) ≡ take 193 (drop 8 (s .block))
+  pub enabled : getD (t .block) 201 0 ≡ 1
+
+-- 0 clears enable alone.
+abbrev pub cleared : State → State
+cleared s = state (set (s .block) 201 0) (s .staged) (s .live) (s .gains)
+
+-- Any packet but a 1 leaves the live side.
+pub record LiveKept (s t : State) : Type 0 where
+  pub points-kept : s .live ≡ t .live
+  pub settings-kept : take 193 (drop 202 (s .block)) ≡ take 193 (drop 202 (t .block))
+
+-- ---- 34h: the judge of upload plans and the front end go by one write.
+
+-- A packet that is an accepted 34h write.
+abbrev pub Writes34 : List ℕ → Out → Type 0
+Writes34 p o = (o .status ≡ 0) × (opcodeOf p ≡ 0x34) × (isRead (headerOf p) ≡ 0)
+
+-- The staged points stand where the judge has a map of N points.
+pub record SameWrite (p : List ℕ) (s : State) (o : Out) : Type 0 where
+  pub staged : o .state .staged ≡ mapAfter (stagedPoints (s .block)) p (s .staged)
+  pub accepted : (acceptedAt (stagedPoints (s .block)) p ≡ true) ↔ Writes34 p o
+
+-- ---- The promise of the entries, on tables of numbers.
+
+pub record Handled (p : List ℕ) (s : State) (reply : List ℕ) (o : Out) : Type 0 where
+  pub outcome : o ≡ step p s reply
+  pub demand1 : Demand1 p s reply o
+  pub demand2 : Demand2 p s reply o
+  pub reply-meant : Replied p s o
+  -- What was lent right is left so, each setting in its range.
+  pub stays : LentRight s reply → LentRight (o .state) (o .reply)
+  -- Block bytes without a meaning are as they were.
+  pub tail : drop 865 (o .state .block) ≡ drop 865 (s .block)
+  pub applied : Applies p o → Applied s (o .state)
+  pub cleared-by : Sets36 0 p o → o .state ≡ cleared s
+  pub live : (Applies p o → ⊥) → LiveKept s (o .state)
+  pub same-write : LentRight s reply → SameWrite p s o
+
+-- Reset: the whole block and all tables if the lengths are right, and what it leaves is in range; else 1, and all as it was.
+pub record Resets (s : State) (o : ResetOut) : Type 0 where
+  pub outcome : o ≡ reset s
+  pub exactly : (o .status ≡ 0) ↔ StateLent s
+  pub wrong-length : (StateLent s → ⊥) → o ≡ resetOut 1 s
+  pub in-range : o .status ≡ 0 → SettingsAllowed (o .state .block)

@@ -3,4 +3,5 @@ pub mod State
 pub mod Commands
 pub mod Step
 pub mod Demands
-pub mod Granted
+pub mod Calls
+pub mod Internal

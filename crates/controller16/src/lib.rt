@@ -11,15 +11,16 @@ ghost use Rattle.wire.specs.Buffers.{over};
 ghost use Rattle.opcode.specs.Options.{isRead, hasSum};
 ghost use Rattle.packet.specs.Points.{writePoints, startOf, pointsOf};
 ghost use Rattle.reply.specs.Reply.{replyBytes};
-ghost use Rattle.controller.specs.State.{state, resetOut, lengthsRight, «stopped» as stoppedBy, «reset» as resetOf};
+ghost use Rattle.controller.specs.State.{state, resetOut, lengthsRight, «stopped» as stoppedBy};
 ghost use Rattle.controller.specs.Commands.{written, writeGains, applyLive, dataBack};
 ghost use Rattle.controller.specs.Step.{«out» as outcome, decision, step};
-ghost use Rattle.controller.specs.Granted.{Granted, PointsWrite, GainsWrite};
+ghost use Rattle.controller.specs.Demands.{Handled, Resets};
+ghost use Rattle.controller.specs.Internal.{Granted, PointsWrite, GainsWrite};
 
 // Puts the block and all tables as they are after reset. Answers 0, or 1 for a wrong length, when nothing is changed.
 pub fn reset(block: &mut [u8], staged: &mut [u16], live: &mut [u16], gains: &mut [u16]) -> u8
-    ensures { λ r. ⌜ resetOut r (state (now (block .exit)) (now (staged .exit)) (now (live .exit)) (now (gains .exit)))
-        ≡ resetOf (state (now (block .entry)) (now (staged .entry)) (now (live .entry)) (now (gains .entry))) ⌝ }
+    ensures { λ r. ⌜ Resets (state (now (block .entry)) (now (staged .entry)) (now (live .entry)) (now (gains .entry)))
+        (resetOut r (state (now (block .exit)) (now (staged .exit)) (now (live .exit)) (now (gains .exit)))) ⌝ }
 {
     if !lengths_right(block, staged, live, gains) {
         return 1;
@@ -56,8 +57,10 @@ pub fn handle(
     gains: &mut [u16],
     reply: &mut [u8],
 ) -> Outcome
-    ensures { λ r. ⌜ outcome (r .status) (r .size) (state (now (block .exit)) (now (staged .exit)) (now (live .exit)) (now (gains .exit))) (now (reply .exit))
-        ≡ step (now (packet .entry)) (state (now (block .entry)) (now (staged .entry)) (now (live .entry)) (now (gains .entry))) (now (reply .entry)) ⌝ }
+    ensures { λ r. ⌜ Handled (now (packet .entry))
+        (state (now (block .entry)) (now (staged .entry)) (now (live .entry)) (now (gains .entry))) (now (reply .entry))
+        (outcome (r .status) (r .size)
+        (state (now (block .exit)) (now (staged .exit)) (now (live .exit)) (now (gains .exit))) (now (reply .exit))) ⌝ }
 {
     if stopped(block, staged, live, gains, reply) {
         return Outcome { status: 1, size: 0 };

@@ -2,4 +2,4 @@
 -- answers are those of the entries on numbers.
 pub mod Moves
 pub mod Ways
-pub mod Alike
+pub mod Promises

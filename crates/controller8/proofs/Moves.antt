@@ -14,7 +14,7 @@ use Rattle.wire.proofs.Tables.{halves-paste}
 use Rattle.packet.specs.Points.{writePoints, startOf, pointsOf}
 use Rattle.tables.proofs.Bytes.{Below, bytes-words, bytes-part}
 use Rattle.controller.specs.Commands.{writeGains, colourPlace}
-use Rattle.controller.specs.Granted.{PointsWrite, GainsWrite}
+use Rattle.controller.specs.Internal.{PointsWrite, GainsWrite}
 use Rattle.controller.proofs.Blocks.{paste-over}
 
 -- ---- Out of a table.

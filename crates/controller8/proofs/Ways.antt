@@ -4,9 +4,10 @@ use mathlib.Core.Path.{_≡_, refl, sym, _∙_}
 use mathlib.Core.Bool.{Bool, true, false, not, _||_}
 use mathlib.Core.List.{List}
 use native.Mathlib.Omega.{arith}
+use borrow.Author.Tests.{eq-eqb}
 use lib.ListN.{length, replicate}
 use lib.Dec.{leb}
-use Rattle.opcode.proofs.Accepts.Tests.{told}
+use Rattle.wire.proofs.Tests.{told}
 use Rattle.wire.specs.Tables.{bytes}
 use Rattle.settings.specs.Ranges.{settingsRight}
 use Rattle.settings.specs.Reset.{resetBlock, resetMap, resetGains}
@@ -14,7 +15,7 @@ use Rattle.tables.proofs.Bytes.{Below, bytes-words, length-words-of}
 use Rattle.controller.specs.State.{State, lengthsRight, stopped}
 use Rattle.controller.specs.Step.{out, step}
 use Rattle.controller.proofs.Steps.{step-stopped}
-use Rattle.controller8.specs.Bytes.{Lent, stateIn, bytesOf, byteLengthsRight, lentOut, stepBytes, lentReset, resetBytes}
+use Rattle.controller8.specs.Bytes.{Lent, stateIn, lentOf, byteLengthsRight, lentOut, stepBytes, lentReset, resetBytes, BytesLent}
 
 -- Lent tables are bytes.
 pub record Small (l : Lent) : Type 0 where
@@ -22,27 +23,24 @@ pub record Small (l : Lent) : Type 0 where
   pub live : Below 256 (l .live)
   pub gains : Below 256 (l .gains)
 
-pub record Sized (l : Lent) : Type 0 where
-  pub block : length (l .block) ≡ 1024
-  pub staged : length (l .staged) ≡ 7936
-  pub live : length (l .live) ≡ 7936
-  pub gains : length (l .gains) ≡ 12096
-
 module _ (l : Lent) where
-  pub sized : byteLengthsRight l ≡ true → Sized l
+  pub sized : byteLengthsRight l ≡ true → BytesLent l
   sized e = record { block = search told; staged = search told; live = search told; gains = search told }
 
+  pub right-sized : BytesLent l → byteLengthsRight l ≡ true
+  right-sized z = rw (eq-eqb _ _ (z .block), eq-eqb _ _ (z .staged), eq-eqb _ _ (z .live), eq-eqb _ _ (z .gains))
+
   -- Their numbers are as many as they must be.
-  pub wide-lengths : Sized l → lengthsRight (stateIn l) ≡ true
+  pub wide-lengths : BytesLent l → lengthsRight (stateIn l) ≡ true
   wide-lengths z =
       rw (z .block, length-words-of (l .staged) 3968 (z .staged), length-words-of (l .live) 3968 (z .live), length-words-of (l .gains) 6048 (z .gains))
 
-  pub stopped-by : (reply : List ℕ) → Sized l → stopped (stateIn l) reply ≡ (not (leb 512 (length reply)) || not (settingsRight (l .block)))
+  pub stopped-by : (reply : List ℕ) → BytesLent l → stopped (stateIn l) reply ≡ (not (leb 512 (length reply)) || not (settingsRight (l .block)))
   unfolding stopped
   stopped-by reply z = rw (wide-lengths z)
 
   -- Numbers that nothing changed are the bytes that were lent.
-  pub unchanged : byteLengthsRight l ≡ true → Small l → l ≡ bytesOf (stateIn l)
+  pub unchanged : byteLengthsRight l ≡ true → Small l → l ≡ lentOf (stateIn l)
   unchanged right s =
       let z = sized right in
       rw (
@@ -57,7 +55,7 @@ running e f = let g = sym e ∙ f in (search told, search told)
 
 module _ (p : List ℕ) (l : Lent) (reply : List ℕ) where
   -- The step on the numbers that the bytes hold, as the step on the bytes.
-  pub in-bytes : byteLengthsRight l ≡ true → {status size : ℕ} {s : State} {t : Lent} {answer : List ℕ} → t ≡ bytesOf s
+  pub in-bytes : byteLengthsRight l ≡ true → {status size : ℕ} {s : State} {t : Lent} {answer : List ℕ} → t ≡ lentOf s
       → out status size s answer ≡ step p (stateIn l) reply → lentOut status size t answer ≡ stepBytes p l reply
   unfolding stepBytes
   in-bytes right same e = rw (same, right, ← e)

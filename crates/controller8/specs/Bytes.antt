@@ -1,13 +1,16 @@
 -- "There, every table, room or plan is lent as its bytes, low byte first, of the matching length, and the answers are those of the entries on
 -- wider numbers." Lengths are judged in bytes, exactly.
 use Prim.Native.Nat.{ℕ}
+use mathlib.Core.Path.{_≡_}
+use mathlib.Core.Logic.{_↔_}
 use mathlib.Core.Bool.{Bool, cond, _&&_}
 use mathlib.Core.List.{List}
-use lib.ListN.{length}
+use lib.ListN.{length, drop}
 use lib.Dec.{eqb}
 use Rattle.wire.specs.Tables.{words, bytes}
-use Rattle.controller.specs.State.{State, resetState}
-use Rattle.controller.specs.Step.{Out, step}
+use Rattle.controller.specs.State.{State, resetState, resetOut}
+use Rattle.controller.specs.Step.{Out, out, step}
+use Rattle.controller.specs.Demands.{Accepted, Handled, Resets}
 
 -- Block and tables, all as bytes.
 pub record Lent : Type 0 where
@@ -23,8 +26,8 @@ lent block staged live gains = record { block = block; staged = staged; live = l
 abbrev pub stateIn : Lent → State
 stateIn l = record { block = l .block; staged = words (l .staged); live = words (l .live); gains = words (l .gains) }
 
-abbrev pub bytesOf : State → Lent
-bytesOf s = record { block = s .block; staged = bytes (s .staged); live = bytes (s .live); gains = bytes (s .gains) }
+abbrev pub lentOf : State → Lent
+lentOf s = record { block = s .block; staged = bytes (s .staged); live = bytes (s .live); gains = bytes (s .gains) }
 
 -- Two bytes for each number: block 1,024, maps 7,936, gains 12,096.
 abbrev pub byteLengthsRight : Lent → Bool
@@ -45,7 +48,7 @@ abbrev pub lentOut : ℕ → ℕ → Lent → List ℕ → LentOut
 lentOut status size l reply = record { status = status; size = size; lent = l; reply = reply }
 
 abbrev pub outBytes : Out → LentOut
-outBytes o = lentOut (o .status) (o .size) (bytesOf (o .state)) (o .reply)
+outBytes o = lentOut (o .status) (o .size) (lentOf (o .state)) (o .reply)
 
 -- A wrong length is refusal 1, with no reply and every byte as it was; else what the step on numbers gives.
 unfoldable pub stepBytes : List ℕ → Lent → List ℕ → LentOut
@@ -59,4 +62,37 @@ abbrev pub lentReset : ℕ → Lent → LentReset
 lentReset status l = record { status = status; lent = l }
 
 unfoldable pub resetBytes : Lent → LentReset
-resetBytes l = cond (byteLengthsRight l) (lentReset 0 (bytesOf resetState)) (lentReset 1 l)
+resetBytes l = cond (byteLengthsRight l) (lentReset 0 (lentOf resetState)) (lentReset 1 l)
+
+-- ---- What the entries on bytes promise.
+
+-- The lengths of block and tables in bytes.
+pub record BytesLent (l : Lent) : Type 0 where
+  pub block : length (l .block) ≡ 1024
+  pub staged : length (l .staged) ≡ 7936
+  pub live : length (l .live) ≡ 7936
+  pub gains : length (l .gains) ≡ 12096
+
+-- The answer and the numbers that the bytes left hold.
+abbrev pub numbersOut : LentOut → Out
+numbersOut o = out (o .status) (o .size) (stateIn (o .lent)) (o .reply)
+
+-- One packet. Demand 1 byte for byte; demand 2 with the lengths in bytes; and with these right, all that the entry on numbers promises of the
+-- numbers that the bytes hold.
+pub record HandledBytes (p : List ℕ) (l : Lent) (reply : List ℕ) (o : LentOut) : Type 0 where
+  pub outcome : o ≡ stepBytes p l reply
+  -- A status other than 0 leaves block, staged, live and gains, byte for byte, as they were.
+  pub unchanged : (o .status ≡ 0 → ⊥) → o .lent ≡ l
+  -- The reply buffer changes only where the reply is written.
+  pub behind : drop (o .size) (o .reply) ≡ drop (o .size) reply
+  -- A wrong length is refusal 1, without a reply.
+  pub wrong-length : (BytesLent l → ⊥) → o ≡ lentOut 1 0 l reply
+  pub exactly : (o .status ≡ 0) ↔ (BytesLent l × Accepted p (stateIn l) reply)
+  pub numbers : BytesLent l → Handled p (stateIn l) reply (numbersOut o)
+
+-- Reset.
+pub record ResetsBytes (l : Lent) (o : LentReset) : Type 0 where
+  pub outcome : o ≡ resetBytes l
+  pub exactly : (o .status ≡ 0) ↔ BytesLent l
+  pub wrong-length : (BytesLent l → ⊥) → o ≡ lentReset 1 l
+  pub numbers : BytesLent l → Resets (stateIn l) (resetOut (o .status) (stateIn (o .lent)))

@@ -12,16 +12,16 @@ ghost use Rattle.opcode.specs.Options.{isRead, hasSum};
 ghost use Rattle.packet.specs.Points.{writePoints, startOf, pointsOf};
 ghost use Rattle.reply.specs.Reply.{replyBytes};
 ghost use Rattle.controller.specs.State.{«stopped» as stoppedBy};
-ghost use Rattle.controller8.specs.Bytes.{lent, stateIn, bytesOf, byteLengthsRight, lentOut, stepBytes, lentReset, resetBytes};
+ghost use Rattle.controller8.specs.Bytes.{lent, stateIn, lentOf, byteLengthsRight, lentOut, stepBytes, lentReset, HandledBytes, ResetsBytes};
 ghost use Rattle.wire.specs.Tables.{words, bytes};
 ghost use Rattle.controller.specs.Commands.{written, writeGains, applyLive, dataBack};
 ghost use Rattle.controller.specs.Step.{decision};
-ghost use Rattle.controller.specs.Granted.{Granted, PointsWrite, GainsWrite};
+ghost use Rattle.controller.specs.Internal.{Granted, PointsWrite, GainsWrite};
 
 // Puts the block and all tables as they are after reset. Answers 0, or 1 for a wrong length, when nothing is changed.
 pub fn reset(block: &mut [u8], staged: &mut [u8], live: &mut [u8], gains: &mut [u8]) -> u8
-    ensures { λ r. ⌜ lentReset r (lent (now (block .exit)) (now (staged .exit)) (now (live .exit)) (now (gains .exit)))
-        ≡ resetBytes (lent (now (block .entry)) (now (staged .entry)) (now (live .entry)) (now (gains .entry))) ⌝ }
+    ensures { λ r. ⌜ ResetsBytes (lent (now (block .entry)) (now (staged .entry)) (now (live .entry)) (now (gains .entry)))
+        (lentReset r (lent (now (block .exit)) (now (staged .exit)) (now (live .exit)) (now (gains .exit)))) ⌝ }
 {
     if !lengths_right(block, staged, live, gains) {
         return 1;
@@ -58,8 +58,10 @@ pub fn handle(
     gains: &mut [u8],
     reply: &mut [u8],
 ) -> Outcome
-    ensures { λ r. ⌜ lentOut (r .status) (r .size) (lent (now (block .exit)) (now (staged .exit)) (now (live .exit)) (now (gains .exit))) (now (reply .exit))
-        ≡ stepBytes (now (packet .entry)) (lent (now (block .entry)) (now (staged .entry)) (now (live .entry)) (now (gains .entry))) (now (reply .entry)) ⌝ }
+    ensures { λ r. ⌜ HandledBytes (now (packet .entry))
+        (lent (now (block .entry)) (now (staged .entry)) (now (live .entry)) (now (gains .entry))) (now (reply .entry))
+        (lentOut (r .status) (r .size)
+        (lent (now (block .exit)) (now (staged .exit)) (now (live .exit)) (now (gains .exit))) (now (reply .exit))) ⌝ }
 {
     if stopped(block, staged, live, gains, reply) {
         return Outcome { status: 1, size: 0 };
@@ -208,7 +210,7 @@ fn store(
     requires { ⌜ Granted opcode options (now «data») (now block) × (isRead options ≡ 0) × (length (now staged) ≡ 7936) × (length (now live) ≡ 7936)
         × (length (now gains) ≡ 12096) ⌝ }
     ensures { λ _. ⌜ lent (now (block .exit)) (now (staged .exit)) (now (live .exit)) (now (gains .exit))
-        ≡ bytesOf (written opcode (now («data» .entry)) (stateIn (lent (now (block .entry)) (now (staged .entry)) (now (live .entry)) (now (gains .entry))))) ⌝ }
+        ≡ lentOf (written opcode (now («data» .entry)) (stateIn (lent (now (block .entry)) (now (staged .entry)) (now (live .entry)) (now (gains .entry))))) ⌝ }
 {
     apply(opcode, data, staged, live);
     store_points(opcode, data, staged);

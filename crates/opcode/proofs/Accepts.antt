@@ -1,6 +1,5 @@
 -- No refusal from 7 to 11 is given exactly if the data is allowed for the opcode under its options. The step between the two is `Silent`:
 -- each of the five tests is false.
-pub mod Tests
 pub mod Fields
 pub mod Lists
 pub mod Commands
@@ -19,7 +18,7 @@ use Rattle.wire.specs.First.{first}
 use Rattle.opcode.specs.Options.{isRead}
 use Rattle.opcode.specs.Judgement.{judgement}
 use Rattle.opcode.specs.Allowed.{Allowed}
-use Tests.{Silent, silent-first, first-silent}
+use Rattle.wire.proofs.Tests.{Silent, silent-first, first-silent}
 use Reads.{read-silent, silent-read}
 use Writes.{write-silent, silent-write, silent-length}
 

@@ -5,7 +5,7 @@ use mathlib.Core.List.{List}
 use native.Mathlib.Omega.{arith}
 use Rattle.wire.specs.First.{first}
 use Rattle.opcode.specs.Judgement.{judgement}
-use Rattle.opcode.proofs.Accepts.Tests.{first-silent}
+use Rattle.wire.proofs.Tests.{first-silent}
 use Rattle.opcode.proofs.Accepts.Commands.{of-carried}
 
 pub carried-below : (op o : ℕ) (d : List ℕ) → first (judgement op o d) ≡ 0 → op < 256

@@ -11,13 +11,17 @@ use lib.ListN.{length}
 use Rattle.wire.specs.Numbers.{byteAt, wordAt}
 use Rattle.wire.specs.First.{first}
 use Rattle.opcode.specs.declared.Row.{Row}
+use Rattle.opcode.specs.declared.Runs.{Runs}
 use Rattle.opcode.specs.Options.{isRead, hasLength}
 use Rattle.opcode.specs.Fields.{fault, wordsAt, rise, firstLarge}
-use Rattle.opcode.specs.Commands.{commandOf}
-use Rattle.opcode.specs.Table.{fieldList, fieldsFrom, Matches}
-use Rattle.opcode.specs.Judgement.{judgement, sizeWrong, valueFault, fixedNumber, variableNumber}
-use Rattle.opcode.specs.Judgement.{gainsSizeWrong, gainsFault, gainsNumber, pointsSizeWrong, pointsNumber, controlSizeWrong, controlFault, controlNumber}
-use Rattle.opcode.specs.Judgement.{listsFault, listsNumber, smoothSizeWrong, smoothFault, smoothNumber}
+use Rattle.opcode.specs.Commands.{commandOf, rowOf}
+use Rattle.opcode.specs.Internal.{fieldList, fieldsFrom, RunsRight}
+use Rattle.opcode.specs.Judgement.{judgement, sizeWrong, valueFault}
+use Rattle.opcode.specs.Internal.{fixedNumber, variableNumber}
+use Rattle.opcode.specs.Judgement.{gainsSizeWrong, gainsFault, pointsSizeWrong, controlSizeWrong, controlFault}
+use Rattle.opcode.specs.Internal.{gainsNumber, pointsNumber, controlNumber}
+use Rattle.opcode.specs.Judgement.{listsFault, smoothSizeWrong, smoothFault}
+use Rattle.opcode.specs.Internal.{listsNumber, smoothNumber}
 
 -- Where the heads of the variable writes stand.
 head-2B : commandOf 0x2B .sets ≡ fieldsFrom 6 4
@@ -185,35 +189,38 @@ behind true value name w e = rw e
 behind false true name w e = rw e
 behind false false name w e = rw e
 
--- Any command, by its row.
-module _ (op o : ℕ) (d : List ℕ) (r : Row) (row : Matches r (commandOf op)) where
+-- Any command, by its row and its runs of fields.
+module _ (op o : ℕ) (d : List ℕ) (r : Row) (row : r ≡ rowOf op) where
+  row-mark : r .mark ≡ commandOf op .mark
+  row-mark = ap (λ (r : Row). r .mark) row
+
   pub judged-unknown : r .mark ≡ 0 → first (judgement op o d) ≡ 7
   unfolding judgement
-  judged-unknown h = simp (← row .mark, eq-eqb _ _ h)
+  judged-unknown h = simp (← row-mark, eq-eqb _ _ h)
 
-  module _ (carried : r .mark ≡ 0 → ⊥) where
-    pub judged-read : isRead o ≡ 1 → first (judgement op o d) ≡ fixedNumber (r .read) (fieldsFrom (r .asks) (r .«asks_count»)) d
+  module _ (carried : r .mark ≡ 0 → ⊥) (q : Runs) (runs : RunsRight q (commandOf op)) where
+    pub judged-read : isRead o ≡ 1 → first (judgement op o d) ≡ fixedNumber (r .read) (fieldsFrom (q .2) (q .3)) d
     unfolding sizeWrong valueFault judgement
-    judged-read read = simp (← row .mark, ne-eqb _ _ carried, read, ← row .read, ← row .asks)
+    judged-read read = simp (← row-mark, ne-eqb _ _ carried, read, ← ap (λ (r : Row). r .read) row, ← runs .asks)
 
     module _ (write : isRead o ≡ 0) where
       pub judged-length : r .mark ≡ 2 → hasLength o ≡ 0 → first (judgement op o d) ≡ 8
       unfolding judgement
-      judged-length mark length = simp (← row .mark, write, mark, length)
+      judged-length mark length = simp (← row-mark, write, mark, length)
 
       pub judged-variable : r .mark ≡ 2 → hasLength o ≡ 1 → first (judgement op o d) ≡ variableNumber op d
       unfolding sizeWrong valueFault judgement
       judged-variable mark length =
-          let variable : commandOf op .mark ≡ 2 = sym (row .mark) ∙ mark in
+          let variable : commandOf op .mark ≡ 2 = sym row-mark ∙ mark in
           simp (variable, write, length, not-39 op variable) (by-opcode d (eqb op 0x2B) (eqb op 0x34) (eqb op 0x35))
 
       -- w being what data of a fixed size gives.
-      module _ (fixed : r .mark ≡ 2 → ⊥) (w : ℕ) (is : w ≡ fixedNumber (r .write) (fieldsFrom (r .sets) (r .«sets_count»)) d) where
+      module _ (fixed : r .mark ≡ 2 → ⊥) (w : ℕ) (is : w ≡ fixedNumber (r .write) (fieldsFrom (q .0) (q .1)) d) where
         judged-fixed : first (judgement op o d) ≡ cond (eqb w 0) (cond (eqb op 0x39 && eqb (byteAt d 0) 1) 11 0) w
         unfolding sizeWrong valueFault judgement
         judged-fixed =
-            simp (← row .mark, ne-eqb _ _ carried, write, ne-eqb _ _ fixed, not-2B op (λ e. fixed (row .mark ∙ e)), or-false, ← row .write, ← row .sets)
-            (behind (not (eqb (length d) (r .write))) (ltb (fault (fieldsFrom (r .sets) (r .«sets_count»)) d 0) (length d)) (eqb op 0x39 && eqb (byteAt d 0) 1) w is)
+            simp (← row-mark, ne-eqb _ _ carried, write, ne-eqb _ _ fixed, not-2B op (λ e. fixed (row-mark ∙ e)), or-false, ← ap (λ (r : Row). r .write) row, ← runs .sets)
+            (behind (not (eqb (length d) (r .write))) (ltb (fault (fieldsFrom (q .0) (q .1)) d 0) (length d)) (eqb op 0x39 && eqb (byteAt d 0) 1) w is)
 
         pub judged-refused : (w ≡ 0 → ⊥) → first (judgement op o d) ≡ w
         unfolding judgement

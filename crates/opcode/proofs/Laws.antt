@@ -11,7 +11,7 @@ use lib.Seq.{take-add, drop-at, length-take-le, slice, slice-empty, slice-cons}
 use Rattle.wire.specs.Numbers.{wordAt}
 use Rattle.opcode.specs.declared.Field.{Field}
 use Rattle.opcode.specs.Fields.{fault, takes, number, wordsAt, rise, riseFrom, firstLarge}
-use Rattle.opcode.specs.Table.{noField, fieldList, fieldsFrom}
+use Rattle.opcode.specs.Internal.{noField, fieldList, fieldsFrom}
 use Rattle.opcode.proofs.Table.{everywhere}
 
 length-fields : length fieldList ≡ 41

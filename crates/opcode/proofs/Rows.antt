@@ -13,7 +13,7 @@ use Rattle.opcode.specs.declared.Field.{Field}
 use Rattle.opcode.specs.declared.Runs.{Runs}
 use Rattle.opcode.specs.Fields.{from-to-but}
 use Rattle.opcode.specs.Commands.{Command, commands, look-up, commandOf, none}
-use Rattle.opcode.specs.Table.{noField, fieldList, fieldsFrom, Sized, Placed}
+use Rattle.opcode.specs.Internal.{noField, fieldList, fieldsFrom, Sized, RunsRight}
 use Rattle.opcode.proofs.Table.{and-left, and-right}
 use Rattle.opcode.proofs.Arms.{all, of-keys, hasArm, NoneOf, no-arm}
 
@@ -60,12 +60,12 @@ placed r c =
     && leb (r .0 + r .1) 41
     && leb (r .2 + r .3) 41
 
-placing : (r : Runs) (c : Command) → T (placed r c) → Placed r c
+placing : (r : Runs) (c : Command) → T (placed r c) → RunsRight r c
 unfolding placed
 placing r c t = search (parts, same-fields) depth 12
 
 -- The runs of an arm, by its keys.
-pub keyed-runs : (r : Runs) (ks : List ℕ) (op : ℕ) → T (all (λ k. placed r (commandOf k)) ks) → OneOf ks op → Placed r (commandOf op)
+pub keyed-runs : (r : Runs) (ks : List ℕ) (op : ℕ) → T (all (λ k. placed r (commandOf k)) ks) → OneOf ks op → RunsRight r (commandOf op)
 keyed-runs r ks op t h = placing r (commandOf op) (of-keys (λ k. placed r (commandOf k)) ks op t h)
 
 -- The test of a packed row.
@@ -90,6 +90,6 @@ beyond op h = not-listed (λ n. leb n 255) op commands tt (λ t. omega (arith, l
 
 -- The runs of an opcode that is no key of the arms, which have all of the list.
 pub unkeyed-runs : (arms : List (List ℕ)) (op : ℕ) → T (all (λ c. hasArm arms (c .opcode)) commands) → NoneOf arms op
-    → Placed (record { 0 = 0; 1 = 0; 2 = 0; 3 = 0 }) (commandOf op)
+    → RunsRight (record { 0 = 0; 1 = 0; 2 = 0; 3 = 0 }) (commandOf op)
 unfolding commandOf
 unkeyed-runs arms op t rest = rw (not-listed (hasArm arms) op commands t (no-arm arms op rest)) (search needs)

@@ -4,6 +4,7 @@ use mathlib.Core.Bool.{cond}
 use mathlib.Core.List.{List, [], _∷_}
 use lib.Dec.{eqb}
 use Rattle.opcode.specs.declared.Field.{Field}
+use Rattle.opcode.specs.declared.Row.{Row}
 use Rattle.opcode.specs.Fields.{byte, word, from-to, from-to-but}
 
 -- "data sizes for write, read and return, and a mark for variable or not carried"; sizes that vary are 0 here. Then the fields of a
@@ -107,3 +108,8 @@ look-up op (c ∷ cs) = cond (eqb op (c .opcode)) c (look-up op cs)
 
 unfoldable pub commandOf : ℕ → Command
 commandOf op = look-up op commands
+
+-- What the table of 256 rows says of an opcode: "data sizes for write, read and return, and a mark for variable or not carried".
+abbrev pub rowOf : ℕ → Row
+rowOf op =
+    record { mark = commandOf op .mark; write = commandOf op .write; read = commandOf op .read; back = commandOf op .back }

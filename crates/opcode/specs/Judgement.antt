@@ -101,30 +101,3 @@ judgement op o d =
     ∷ (10, valueWrong op o d)
     ∷ (11, namedOnly op o d)
     ∷ []
-
--- ---- The parts of the judgement that the code's leaves answer.
-
--- Data of a fixed size, all of it fields: refusals 9 and 10.
-abbrev pub fixedNumber : ℕ → List Field → List ℕ → ℕ
-fixedNumber size fields d = first ((9, not (eqb (length d) size)) ∷ (10, ltb (fault fields d 0) (length d)) ∷ [])
-
--- A write whose size varies: refusals 9 to 11.
-abbrev pub gainsNumber : List ℕ → ℕ
-gainsNumber d = first ((9, gainsSizeWrong d) ∷ (10, ltb (gainsFault d) (length d)) ∷ (11, eqb (byteAt d 0) 1) ∷ [])
-
-abbrev pub pointsNumber : List ℕ → ℕ
-pointsNumber d = first ((9, pointsSizeWrong d) ∷ [])
-
-abbrev pub controlNumber : List ℕ → ℕ
-controlNumber d = first ((9, controlSizeWrong d) ∷ (10, ltb (controlFault d) (length d)) ∷ [])
-
-abbrev pub listsNumber : List ℕ → ℕ
-listsNumber d = first ((9, not (eqb (length d) 189)) ∷ (10, ltb (listsFault d) (length d)) ∷ [])
-
-abbrev pub smoothNumber : List ℕ → ℕ
-smoothNumber d = first ((9, smoothSizeWrong d) ∷ (10, ltb (smoothFault d) (length d)) ∷ [])
-
-abbrev pub variableNumber : ℕ → List ℕ → ℕ
-variableNumber op d =
-    cond (eqb op 0x2B) (gainsNumber d)
-    (cond (eqb op 0x34) (pointsNumber d) (cond (eqb op 0x35) (controlNumber d) (smoothNumber d)))

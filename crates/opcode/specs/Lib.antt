@@ -4,4 +4,4 @@ pub mod Options
 pub mod Commands
 pub mod Judgement
 pub mod Allowed
-pub mod Table
+pub mod Internal

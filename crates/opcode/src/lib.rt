@@ -6,10 +6,10 @@ ghost use lib.ListN.{getD};
 ghost use Rattle.wire.specs.First.{first};
 ghost use Rattle.opcode.specs.Fields.{takes, «fault», wordsAt, «rise», firstLarge};
 ghost use Rattle.opcode.specs.Fields.{«number» as numberAt};
-ghost use Rattle.opcode.specs.Commands.{commandOf};
-ghost use Rattle.opcode.specs.Judgement.{judgement, fixedNumber, variableNumber, gainsNumber, pointsNumber};
-ghost use Rattle.opcode.specs.Judgement.{controlNumber, listsNumber, smoothNumber};
-ghost use Rattle.opcode.specs.Table.{noField, fieldList, fieldsFrom, Sized, Placed, Matches};
+ghost use Rattle.opcode.specs.Commands.{commandOf, rowOf};
+ghost use Rattle.opcode.specs.Judgement.{judgement};
+ghost use Rattle.opcode.specs.Internal.{noField, fieldList, fieldsFrom, Sized, RunsRight};
+ghost use Rattle.opcode.specs.Internal.{fixedNumber, variableNumber, gainsNumber, pointsNumber, controlNumber, listsNumber, smoothNumber};
 
 // A field of a command's data: its bytes, and the numbers it takes, from low to high but for those from gap up to past.
 pub struct Field {
@@ -21,16 +21,12 @@ pub struct Field {
 }
 
 // What the table says of an opcode: mark (0 not carried, 1 fixed sizes, 2 variable), data sizes of a write, of a read and of what a
-// read returns, and where a write's and a read's fields stand in the list of fields.
+// read returns.
 pub struct Row {
     pub mark: usize,
     pub write: usize,
     pub read: usize,
     pub back: usize,
-    pub sets: usize,
-    pub sets_count: usize,
-    pub asks: usize,
-    pub asks_count: usize,
 }
 
 // A row a line, a hexadecimal digit for each of mark and sizes in their order.
@@ -295,19 +291,14 @@ const ROWS: [u16; 256] = [
 
 // The row of any opcode.
 pub fn row_at(opcode: usize) -> Row
-    ensures { λ r. ⌜ Matches r (commandOf opcode) ⌝ }
+    ensures { λ r. ⌜ r ≡ rowOf opcode ⌝ }
 {
     let x = packed_at(opcode);
-    let runs = runs_of(opcode);
     Row {
         mark: (x / 0x1000 % 16) as usize,
         write: (x / 0x0100 % 16) as usize,
         read: (x / 0x0010 % 16) as usize,
         back: (x % 16) as usize,
-        sets: runs.0,
-        sets_count: runs.1,
-        asks: runs.2,
-        asks_count: runs.3,
     }
 }
 
@@ -325,7 +316,7 @@ fn packed_at(opcode: usize) -> u16
 struct Runs(usize, usize, usize, usize);
 
 fn runs_of(opcode: usize) -> Runs
-    ensures { λ r. ⌜ Placed r (commandOf opcode) ⌝ }
+    ensures { λ r. ⌜ RunsRight r (commandOf opcode) ⌝ }
 {
     match opcode {
         0x11 => Runs(0, 1, 0, 0),
@@ -593,7 +584,7 @@ fn fault(data: &[u8], first: usize, count: usize, start: usize) -> usize
 }
 
 // The index of the first of count 16-bit numbers from a place on that is not above the one before it, count for none.
-pub fn rise(s: &[u8], at: usize, count: usize) -> usize
+fn rise(s: &[u8], at: usize, count: usize) -> usize
     requires { ⌜ (at ≤ 65536) × (count ≤ 65536) ⌝ }
     ensures { λ r. ⌜ r ≡ «rise» (wordsAt (now (s .entry)) at count) ⌝ }
 {
@@ -636,8 +627,9 @@ pub fn judge(opcode: usize, options: usize, data: &[u8]) -> Refusal
     if row.mark == 0 {
         return Refusal { number: 7 };
     }
+    let runs = runs_of(opcode);
     if options / 128 % 2 == 1 {
-        return judge_fixed(data, row.read, row.asks, row.asks_count);
+        return judge_fixed(data, row.read, runs.2, runs.3);
     }
     if row.mark == 2 {
         if options / 16 % 2 == 0 {
@@ -645,7 +637,7 @@ pub fn judge(opcode: usize, options: usize, data: &[u8]) -> Refusal
         }
         return judge_variable(opcode, data);
     }
-    let why = judge_fixed(data, row.write, row.sets, row.sets_count);
+    let why = judge_fixed(data, row.write, runs.0, runs.1);
     if why.number == 0 {
         if opcode == 0x39 {
             if wire::byte(data, 0) == 1 {

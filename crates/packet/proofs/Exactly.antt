@@ -3,7 +3,7 @@
 use Prim.Native.Nat.{ℕ, zero, suc, _<_}
 use mathlib.Core.Path.{_≡_, refl, _∙_, sym}
 use mathlib.Core.Logic.{_↔_}
-use mathlib.Core.Bool.{Bool, true, false, not, _&&_}
+use mathlib.Core.Bool.{Bool}
 use mathlib.Core.List.{List, [], _∷_}
 use native.Mathlib.Omega.{arith}
 use borrow.Author.Tests.{ltb-false, eqb-true, not-false, le-ltb, eq-eqb}
@@ -11,24 +11,14 @@ use lib.ListN.{take, drop, getD}
 use lib.Seq.{getD-drop}
 use lib.Dec.{eqb, lit<}
 use Rattle.wire.specs.First.{first}
-use Rattle.opcode.specs.Options.{optionsIn}
 use Rattle.opcode.specs.Judgement.{judgement}
 use Rattle.opcode.specs.Allowed.{Allowed}
 use Rattle.opcode.proofs.Accepts.{accepts}
-use Rattle.opcode.proofs.Accepts.Tests.{silent-first, first-silent}
-use Rattle.packet.specs.Frame.{headerOf, opcodeOf, dataOf, dataSize, place}
+use Rattle.wire.proofs.Tests.{silent-first, first-silent, option-true, option-false}
+use Rattle.packet.specs.Frame.{headerOf, opcodeOf, optionsOf, dataOf, dataSize, place}
 use Rattle.packet.specs.Reading.{refusals, reading}
 use Rattle.packet.specs.Sound.{Taken}
 use Rattle.packet.proofs.Frames.{reading-number}
-
--- A test that holds only where an option is set and two numbers differ.
-option-true : (a b : Bool) → (a && not b) ≡ false → a ≡ true → b ≡ true
-option-true true b h e = not-false b h
-option-true false b h e = cc
-
-option-false : (a b : Bool) → (a ≡ true → b ≡ true) → (a && not b) ≡ false
-option-false true b h = rw h refl
-option-false false b h = refl
 
 -- Bytes of a part are bytes.
 below-take : (n : ℕ) (l : List ℕ) → ((k : ℕ) → getD l k 0 < 256) → (k : ℕ) → getD (take n l) k 0 < 256
@@ -45,11 +35,11 @@ unfolding judgement
 exactly p h = (λ n. to (sym (reading-number p) ∙ n), λ t. reading-number p ∙ from t)
   where
     rest : List (ℕ × Bool)
-    rest = judgement (opcodeOf p) (optionsIn (headerOf p)) (dataOf p)
+    rest = judgement (opcodeOf p) (optionsOf p) (dataOf p)
 
     allows : (first rest ≡ 0)
-        ↔ Allowed (opcodeOf p) (optionsIn (headerOf p)) (dataOf p)
-    allows = accepts (opcodeOf p) (optionsIn (headerOf p)) (dataOf p) (bytes-of-data p h)
+        ↔ Allowed (opcodeOf p) (optionsOf p) (dataOf p)
+    allows = accepts (opcodeOf p) (optionsOf p) (dataOf p) (bytes-of-data p h)
 
     to : first (refusals p) ≡ 0 → Taken p
     to n =

@@ -8,14 +8,14 @@ use borrow.Author.Tests.{ltb-false, eqb-true, eq-eqb}
 use lib.ListN.{length, take, drop}
 use lib.Dec.{eqb}
 use Rattle.wire.specs.First.{first}
-use Rattle.opcode.specs.Options.{optionsIn}
 use Rattle.opcode.specs.Judgement.{judgement}
-use Rattle.packet.specs.Frame.{headerOf, opcodeOf, place, fields, dataSize, dataOf}
-use Rattle.packet.specs.Reading.{Answer, tooShort, tooLong, lengthDiffers, checksumDiffers, elsewhere, frameRefusals, refusals, refusedBy, answered, reading, framed}
+use Rattle.packet.specs.Frame.{headerOf, opcodeOf, optionsOf, place, fields, dataSize, dataOf}
+use Rattle.packet.specs.Reading.{Answer, tooShort, tooLong, lengthDiffers, checksumDiffers, elsewhere, frameRefusals, refusals, refusedBy, answered, reading}
+use Rattle.packet.specs.Internal.{framed}
 
 -- What stands in a packet.
 abbrev pub standing : List ℕ → Answer
-standing p = record { number = 0; opcode = opcodeOf p; options = optionsIn (headerOf p); place = place (headerOf p); size = dataSize p }
+standing p = record { number = 0; opcode = opcodeOf p; options = optionsOf p; place = place (headerOf p); size = dataSize p }
 
 -- The five tests of a frame.
 abbrev pub rows : Bool → Bool → Bool → Bool → Bool → List (ℕ × Bool)
@@ -65,7 +65,7 @@ pub stand-in : (b : Bool) (w n v : ℕ) → v ≡ cond b w n → (b && not (eqb 
 stand-in true w n v e = rw e
 stand-in false w n v e = rw (eq-eqb v n e)
 
-pub standing-as : (p : List ℕ) {op o at size : ℕ} → op ≡ opcodeOf p → o ≡ optionsIn (headerOf p) → at ≡ place (headerOf p) → size ≡ dataSize p
+pub standing-as : (p : List ℕ) {op o at size : ℕ} → op ≡ opcodeOf p → o ≡ optionsOf p → at ≡ place (headerOf p) → size ≡ dataSize p
     → record { number = 0; opcode = op; options = o; place = at; size = size } ≡ standing p
 standing-as p h i j k = rw (h, i, j, k)
 
@@ -98,13 +98,13 @@ pub broken-read : (p : List ℕ) (n : ℕ) → refusedBy n ≡ framed p → refu
 unfolding framed reading
 broken-read p n h =
     let some = broken-some (eqb (first (frameRefusals p)) 0) (first (frameRefusals p)) n p h in
-    h ∙ ap (λ (n : ℕ). answered n p) (sym (framed-broken (tooShort p) (tooLong p) (lengthDiffers p) (checksumDiffers p) (elsewhere p) (judgement (opcodeOf p) (optionsIn (headerOf p)) (dataOf p)) some))
+    h ∙ ap (λ (n : ℕ). answered n p) (sym (framed-broken (tooShort p) (tooLong p) (lengthDiffers p) (checksumDiffers p) (elsewhere p) (judgement (opcodeOf p) (optionsOf p) (dataOf p)) some))
 
 -- What a sound frame holds.
 pub record Stands (p : List ℕ) (op o at size : ℕ) : Type 0 where
   pub none : first (frameRefusals p) ≡ 0
   pub same-opcode : op ≡ opcodeOf p
-  pub same-options : o ≡ optionsIn (headerOf p)
+  pub same-options : o ≡ optionsOf p
   pub same-place : at ≡ place (headerOf p)
   pub same-size : size ≡ dataSize p
   pub whole : fields (headerOf p) ≤ length p
@@ -142,5 +142,5 @@ judged-read p op o at size n h e =
     let there : take (at + size - at) (drop at p) ≡ dataOf p = rw (long, s .same-place) in
     let number : n ≡ first (refusals p) =
     e ∙ alike (λ (op o : ℕ) (d : List ℕ). first (judgement op o d)) (s .same-opcode) (s .same-options) there
-    ∙ sym (framed-sound (tooShort p) (tooLong p) (lengthDiffers p) (checksumDiffers p) (elsewhere p) (judgement (opcodeOf p) (optionsIn (headerOf p)) (dataOf p)) (s .none)) in
+    ∙ sym (framed-sound (tooShort p) (tooLong p) (lengthDiffers p) (checksumDiffers p) (elsewhere p) (judgement (opcodeOf p) (optionsOf p) (dataOf p)) (s .none)) in
     ap (λ (a : Answer). cond (eqb n 0) a (refusedBy n)) (h ∙ ap (λ (n : ℕ). answered n p) (s .none)) ∙ ap (λ (n : ℕ). answered n p) number

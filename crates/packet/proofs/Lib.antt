@@ -7,3 +7,4 @@ pub mod Within
 pub mod Exactly
 pub mod MadeReads
 pub mod MadeAgain
+pub mod Promises

@@ -18,7 +18,8 @@ use Rattle.opcode.specs.Judgement.{judgement}
 use Rattle.opcode.proofs.Below.{carried-below}
 use Rattle.packet.specs.Frame.{headerOf, opcodeOf, place, fields, dataSize, dataOf}
 use Rattle.packet.specs.Reading.{tooShort, tooLong, lengthDiffers, checksumDiffers, elsewhere, reading}
-use Rattle.packet.specs.Making.{present, headBytes, packetOf, made}
+use Rattle.packet.specs.Making.{present, headBytes, packetOf}
+use Rattle.packet.specs.Promises.{MadeAgain}
 use Rattle.packet.proofs.Frames.{Passed, none-of, reading-number, accepted}
 use Rattle.packet.proofs.Makes.{made-whole}
 use Rattle.packet.proofs.Stores.{length-packet}
@@ -124,11 +125,7 @@ module _ (p : List ℕ) (bytes : (k : ℕ) → byteAt p k < 256)
       seal-alike front sum ∙ summed (hasSum (headerOf p)) p (omega arith) (omega (arith, enough)) (tests .no-5)
 
 -- What is read of a packet makes the same packet, and writes it over the buffer.
-pub record MadeAgain (p buffer : List ℕ) : Type 0 where
-  pub same-bytes : packetOf (reading p .opcode) (reading p .options) (dataOf p) ≡ p
-  pub written : made (reading p .opcode) (reading p .options) (dataOf p) buffer ≡ record { status = 0; size = length p; buffer = over p buffer }
-
-pub made-again : (p buffer : List ℕ) → ((k : ℕ) → byteAt p k < 256) → reading p .number ≡ 0 → 512 ≤ length buffer → MadeAgain p buffer
+pub made-again : (p buffer : List ℕ) → ((k : ℕ) → byteAt p k < 256) → reading p .number ≡ 0 → 512 ≤ length buffer → MadeAgain p (reading p) buffer
 made-again p buffer bytes read room =
     let none = sym (reading-number p) ∙ read in
     let op : ℕ = opcodeOf p in
@@ -138,7 +135,6 @@ made-again p buffer bytes read room =
     let again = packet-again p bytes (failed .0) (carried-below op o d (failed .1)) in
     let short = ltb-false 512 (length p) (failed .0 .no-3) in
     let fit : fields o + length d ≤ 512 = omega (arith, length-packet op o d, ap length again) in
-    record {
-      same-bytes = rw (accepted p none) again;
-      written = rw (accepted p none) (made-whole op o d buffer (omega arith) room fit (failed .1) ∙ ap (λ (q : List ℕ). record { status = 0; size = length q; buffer = over q buffer }) again);
-    }
+    rw (accepted p none)
+    (made-whole op o d buffer (omega arith) room fit (failed .1)
+    ∙ ap (λ (q : List ℕ). record { status = 0; size = length q; buffer = over q buffer }) again)

@@ -17,6 +17,7 @@ use Rattle.opcode.specs.Judgement.{judgement}
 use Rattle.packet.specs.Frame.{headerOf, opcodeOf, place, fields, dataSize, dataOf}
 use Rattle.packet.specs.Reading.{tooShort, tooLong, lengthDiffers, checksumDiffers, elsewhere, refusals, reading}
 use Rattle.packet.specs.Making.{present, headBytes, packetOf, Made, makeRefusals, made}
+use Rattle.packet.specs.Promises.{ReadsAsMade}
 use Rattle.wire.proofs.Laws.{take-over}
 use Rattle.packet.proofs.Stores.{length-head, length-packet}
 use Rattle.packet.proofs.Frames.{rows, alike, reading-number, accepted, standing-as}
@@ -130,13 +131,6 @@ module _ (op o : ℕ) (d : List ℕ) (whole : optionsIn o ≡ o) where
         refusal = refusal-same;
       }
 
--- What making answers is what reading gives, and reading gives back what was made.
-pub record ReadsAsMade (op options : ℕ) (d buffer : List ℕ) : Type 0 where
-  pub written : take (made op options d buffer .size) (made op options d buffer .buffer) ≡ packetOf op (optionsIn options) d
-  pub answer : reading (packetOf op (optionsIn options) d)
-      ≡ record { number = 0; opcode = op; options = optionsIn options; place = place (optionsIn options); size = length d }
-  pub content : dataOf (packetOf op (optionsIn options) d) ≡ d
-
 row-failed : (n : ℕ) (a : Bool) (ts : List (ℕ × Bool)) → first ((suc n, a) ∷ ts) ≡ 0 → (a ≡ false) × (first ts ≡ 0)
 row-failed n true ts h = absurd (omega arith)
 row-failed n false ts h = (refl, h)
@@ -150,22 +144,23 @@ module _ (op options : ℕ) (d buffer : List ℕ) where
       ap (λ (m : Made). m .status) (made-by op options d buffer (first (makeRefusals op (optionsIn options) d (length buffer))) refl)
       ∙ made-status (first (makeRefusals op (optionsIn options) d (length buffer))) op (optionsIn options) d buffer
 
-  -- "It refuses with 1 for a buffer under 512, else with what reading would give". An opcode over 255 is no byte: there the list is no
-  -- packet that could be sent, and both go by the same tests.
   pub refuses-as-read : 512 ≤ length buffer → made op options d buffer .status ≡ reading (packetOf op (optionsIn options) d) .number
   refuses-as-read room =
       status-first
       ∙ ap (λ (b : Bool). first ((1, b) ∷ (3, ltb 512 (fields (optionsIn options) + length d)) ∷ judgement op (optionsIn options) d)) (le-ltb (length buffer) 512 room)
       ∙ sym (reading-number (packetOf op (optionsIn options) d) ∙ made-reads op (optionsIn options) d options-whole .refusal)
 
-  pub reads-as-made : made op options d buffer .status ≡ 0 → ReadsAsMade op options d buffer
+  pub reads-as-made : made op options d buffer .status ≡ 0 → ReadsAsMade op options d (made op options d buffer)
   reads-as-made done =
       let p : List ℕ = packetOf op (optionsIn options) d in
       let reads = made-reads op (optionsIn options) d options-whole in
       let none = sym status-first ∙ done in
       let after = row-failed 0 (ltb (length buffer) 512) ((3, ltb 512 (fields (optionsIn options) + length d)) ∷ judgement op (optionsIn options) d) none in
-      record {
-        written = rw (made-by op options d buffer 0 none) (take-over p buffer);
-        answer = accepted p (reads .refusal ∙ after .1) ∙ sym (standing-as p (sym (reads .opcode)) (sym (reads .options)) (sym (reads .data-place)) (sym (reads .data-size)));
-        content = reads .content;
-      }
+      rw (made-by op options d buffer 0 none)
+      (record {
+        command =
+            rw (take-over p buffer)
+            (accepted p (reads .refusal ∙ after .1)
+            ∙ sym (standing-as p (sym (reads .opcode)) (sym (reads .options)) (sym (reads .data-place)) (sym (reads .data-size))));
+        content = rw (take-over p buffer) (reads .content);
+      })

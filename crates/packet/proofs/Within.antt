@@ -11,7 +11,7 @@ use lib.Dec.{eqb}
 use Rattle.wire.specs.First.{first}
 use Rattle.opcode.specs.Options.{optionsIn}
 use Rattle.opcode.specs.Judgement.{judgement}
-use Rattle.opcode.proofs.Accepts.Tests.{first-silent}
+use Rattle.wire.proofs.Tests.{first-silent}
 use Rattle.packet.specs.Frame.{headerOf, fields}
 use Rattle.packet.specs.Reading.{Answer, refusals, answered, reading}
 use Rattle.packet.specs.Making.{makeRefusals, madeBy, made}

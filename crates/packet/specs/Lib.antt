@@ -4,3 +4,5 @@ pub mod Reading
 pub mod Making
 pub mod Points
 pub mod Sound
+pub mod Promises
+pub mod Internal

@@ -8,13 +8,11 @@ use lib.Dec.{eqb, ltb}
 use Rattle.wire.specs.Numbers.{byteAt, wordAt}
 use Rattle.wire.specs.Checksum.{checksum}
 use Rattle.wire.specs.First.{first}
-use Rattle.opcode.specs.Options.{hasLength, hasSum, destination, optionsIn}
+use Rattle.opcode.specs.Options.{hasLength, hasSum, destination}
 use Rattle.opcode.specs.Judgement.{judgement}
-use Rattle.packet.specs.Frame.{headerOf, opcodeOf, lengthPlace, place, fields, dataSize, dataOf}
+use Rattle.packet.specs.Frame.{headerOf, opcodeOf, optionsOf, lengthPlace, place, fields, dataSize, dataOf}
 use Rattle.packet.specs.declared.Reading.{Reading}
 use Rattle.packet.specs.declared.Reading.the-variants.{Command, Refused}
-use Rattle.packet.specs.declared.Frame.{Frame}
-use Rattle.packet.specs.declared.Frame.the-variants.{Sound, Broken}
 
 -- 2: "the packet is shorter than the fields its header announces (empty too)"
 abbrev pub tooShort : List ℕ → Bool
@@ -49,7 +47,7 @@ frameRefusals p =
 
 -- Refusals 2 to 11, in this order: those of the frame, and 7 to 11 of the command in it.
 abbrev pub refusals : List ℕ → List (ℕ × Bool)
-refusals p = frameRefusals p ++ judgement (opcodeOf p) (optionsIn (headerOf p)) (dataOf p)
+refusals p = frameRefusals p ++ judgement (opcodeOf p) (optionsOf p) (dataOf p)
 
 -- What reading gives: the refusal, 0 for none; then opcode, options (header bits 3 to 7 in place; bit 7 says read or write), the place
 -- of the data and its size. All 0 but the number if refused.
@@ -66,7 +64,7 @@ refusedBy n = record { number = n; opcode = 0; options = 0; place = 0; size = 0 
 abbrev pub answered : ℕ → List ℕ → Answer
 answered n p =
     cond (eqb n 0)
-    (record { number = 0; opcode = opcodeOf p; options = optionsIn (headerOf p); place = place (headerOf p); size = dataSize p })
+    (record { number = 0; opcode = opcodeOf p; options = optionsOf p; place = place (headerOf p); size = dataSize p })
     (refusedBy n)
 
 unfoldable pub reading : List ℕ → Answer
@@ -77,12 +75,3 @@ abbrev pub answer : Reading → Answer
 answer (Command opcode options at size) =
     record { number = 0; opcode = opcode; options = options; place = at; size = size }
 answer (Refused why) = refusedBy (why .number)
-
--- The frame alone: refusals 2 to 6, or the same values.
-unfoldable pub framed : List ℕ → Answer
-framed p = answered (first (frameRefusals p)) p
-
-abbrev pub frameAnswer : Frame → Answer
-frameAnswer (Sound opcode options at size) =
-    record { number = 0; opcode = opcode; options = options; place = at; size = size }
-frameAnswer (Broken why) = refusedBy (why .number)

@@ -11,9 +11,11 @@ ghost use Rattle.wire.specs.Numbers.{byteAt, wordAt, wordBytes};
 ghost use Rattle.wire.specs.Checksum.{«checksum»};
 ghost use Rattle.wire.specs.Buffers.{over};
 ghost use Rattle.opcode.specs.Options.{twoByte, hasLength};
-ghost use Rattle.packet.specs.Reading.{answer, reading, frameAnswer, framed, refusedBy, checksumDiffers};
+ghost use Rattle.packet.specs.Reading.{answer, refusedBy, checksumDiffers};
 ghost use Rattle.packet.specs.Frame.{«fields»};
-ghost use Rattle.packet.specs.Making.{made, present, packetOf};
+ghost use Rattle.packet.specs.Making.{present, packetOf};
+ghost use Rattle.packet.specs.Promises.{PacketRead, PacketMade};
+ghost use Rattle.packet.specs.Internal.{framed, frameAnswer};
 
 // A command with its options (header bits 3 to 7 in place) and the place of its data; or why there is none.
 pub enum Reading {
@@ -107,7 +109,7 @@ enum Frame {
 
 // Reads a packet: any bytes, any length.
 pub fn read(packet: &[u8]) -> Reading
-    ensures { λ r. ⌜ answer r ≡ reading (now (packet .entry)) ⌝ }
+    ensures { λ r. ⌜ PacketRead (now (packet .entry)) (answer r) ⌝ }
 {
     let frame = frame_of(packet);
     let Frame::Sound {
@@ -204,8 +206,8 @@ pub struct Made {
 
 // Makes a packet in the buffer: any opcode, any options (header bits 3 to 7 in place, the others not looked at), any data, any buffer.
 pub fn make(opcode: u16, options: u8, data: &[u8], buffer: &mut [u8]) -> Made
-    ensures { λ r. ⌜ record { status = r .status; size = r .size; buffer = now (buffer .exit) }
-        ≡ made opcode options (now («data» .entry)) (now (buffer .entry)) ⌝ }
+    ensures { λ r. ⌜ PacketMade opcode options (now («data» .entry)) (now (buffer .entry))
+        (record { status = r .status; size = r .size; buffer = now (buffer .exit) }) ⌝ }
 {
     if buffer.len() < 512 {
         return Made { status: 1, size: 0 };

@@ -1,3 +1,4 @@
 pub mod Laws
 pub mod ReadsBack
 pub mod Within
+pub mod Promises

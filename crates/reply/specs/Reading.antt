@@ -1,8 +1,10 @@
 -- Document 01, "Reply": "Reply reading takes a reply's bytes and whether a checksum is expected. It gives the status and the place of
 -- the data, or, in this order: 2 under three bytes (four with a checksum), 3 over 512, 4 if the length differs from the data there, 5,
--- and 10 for a status over 12." The place is always 3, "behind its three-byte head".
-use Prim.Native.Nat.{ℕ, _+_, _-_}
-use mathlib.Core.Bool.{Bool, cond, not, _&&_}
+-- and 10 for a status over 12." A reply's data is at 3, "behind its three-byte head".
+use Prim.Native.Nat.{ℕ, _+_, _-_, _≤_}
+use mathlib.Core.Path.{_≡_}
+use mathlib.Core.Logic.{_↔_}
+use mathlib.Core.Bool.{Bool, true, cond, not, _&&_}
 use mathlib.Core.List.{List, [], _∷_}
 use lib.ListN.{length, take}
 use lib.Dec.{eqb, ltb}
@@ -36,19 +38,37 @@ replyRefusals r sum =
     ∷ (10, ltb 12 (byteAt r 0))
     ∷ []
 
-abbrev pub refusedBy : ℕ → ReplyAnswer
-refusedBy n = record { number = n; status = 0; place = 0; size = 0 }
+abbrev pub replyRefusedBy : ℕ → ReplyAnswer
+replyRefusedBy n = record { number = n; status = 0; place = 0; size = 0 }
 
 abbrev pub replyAnswered : ℕ → List ℕ → Bool → ReplyAnswer
 replyAnswered n r sum =
     cond (eqb n 0)
     (record { number = 0; status = byteAt r 0; place = 3; size = length r - 3 - sumSize sum })
-    (refusedBy n)
+    (replyRefusedBy n)
 
 unfoldable pub replyReading : List ℕ → Bool → ReplyAnswer
 replyReading r sum = replyAnswered (first (replyRefusals r sum)) r sum
 
 -- Number and values of each case of the code's answer.
-abbrev pub answer : ReplyReading → ReplyAnswer
-answer (Reply status size) = record { number = 0; status = status; place = 3; size = size }
-answer (Refused why) = refusedBy (why .number)
+abbrev pub replyAnswer : ReplyReading → ReplyAnswer
+replyAnswer (Reply status at size) = record { number = 0; status = status; place = at; size = size }
+replyAnswer (Refused why) = replyRefusedBy (why .number)
+
+-- Which bytes are a reply, apart from the tests that decide it.
+pub record ReplyTaken (r : List ℕ) (sum : Bool) : Type 0 where
+  -- Status and length are there, and the checksum if one is expected; 512 bytes at most.
+  pub whole : 3 + sumSize sum ≤ length r
+  pub short : length r ≤ 512
+  -- The length counts the data alone.
+  pub counted : 3 + wordAt r 1 + sumSize sum ≡ length r
+  pub summed : sum ≡ true → byteAt r (length r - 1) ≡ checksum (take (length r - 1) r)
+  -- 0, or the number of a refusal.
+  pub status : byteAt r 0 ≤ 12
+
+-- What reply reading promises of its answer.
+pub record ReplyRead (r : List ℕ) (sum : Bool) (a : ReplyAnswer) : Type 0 where
+  pub outcome : a ≡ replyReading r sum
+  pub exactly : (a .number ≡ 0) ↔ ReplyTaken r sum
+  -- The status and the data, behind the three-byte head.
+  pub content : a .number ≡ 0 → (a .status ≡ byteAt r 0) × (a .place ≡ 3) × (a .size ≡ wordAt r 1)

@@ -5,17 +5,17 @@ ghost use Prim.Native.Nat.{_+_, _<_, _≤_};
 ghost use lib.ListN.{length, take, drop};
 ghost use Rattle.wire.specs.Buffers.{over};
 ghost use Rattle.reply.specs.Reply.{replyBytes};
-ghost use Rattle.reply.specs.Reading.{answer, refusedBy, replyReading, sumSize, sumWrong};
+ghost use Rattle.reply.specs.Reading.{replyAnswer, replyRefusedBy, ReplyRead, sumSize, sumWrong};
 
-// What a reply says: its status and the size of its data, which starts at place 3; or why it is none.
+// What a reply says: its status, and the place and the size of its data; or why it is none.
 pub enum ReplyReading {
-    Reply { status: u8, size: usize },
+    Reply { status: u8, at: usize, size: usize },
     Refused(Refusal),
 }
 
 // Reads a reply; sum says whether a checksum is expected.
 pub fn read_reply(reply: &[u8], sum: bool) -> ReplyReading
-    ensures { λ r. ⌜ answer r ≡ replyReading (now (reply .entry)) sum ⌝ }
+    ensures { λ r. ⌜ ReplyRead (now (reply .entry)) sum (replyAnswer r) ⌝ }
 {
     let n = reply.len();
     let extra = sum_size(sum);
@@ -36,7 +36,11 @@ pub fn read_reply(reply: &[u8], sum: bool) -> ReplyReading
     if 12 < status {
         return refused(10);
     }
-    ReplyReading::Reply { status, size }
+    ReplyReading::Reply {
+        status,
+        at: 3,
+        size,
+    }
 }
 
 // The bytes that a checksum takes.
@@ -60,7 +64,7 @@ fn sum_wrong(reply: &[u8], sum: bool) -> bool
 }
 
 fn refused(number: u8) -> ReplyReading
-    ensures { λ r. ⌜ answer r ≡ refusedBy number ⌝ }
+    ensures { λ r. ⌜ replyAnswer r ≡ replyRefusedBy number ⌝ }
 {
     ReplyReading::Refused(Refusal { number })
 }

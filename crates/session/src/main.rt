@@ -1,6 +1,7 @@
 // Runs bench packets and many more on a state, through the front end's entry on 16-bit tables, and prints each packet with its status and
-// its reply. A script is a list of packets, each behind its two-byte length; a length of 65,535 stands for a reset.
-ghost use Prim.Native.Nat.{_<_};
+// its reply. A script is a list of packets, each behind its two-byte length; a length of 65,535 stands for a reset, and one of 65,534 for a reset and a
+// packet on parts of the lists, whose five lengths follow.
+ghost use Prim.Native.Nat.{_+_, _<_, _≤_};
 ghost use lib.ListN.{length};
 
 fn main() {
@@ -64,6 +65,15 @@ fn main() {
         &mut gains,
         &mut reply,
     );
+    io::write_all(1, b"lists that are a number short\n");
+    run(
+        b"\x03\x00\x04\x11\x01\x03\x00\x04\x36\x01\xfe\xff\xff\x03\x80\x0f\x80\x0f\xa0\x17\x00\x02\xfe\xff\x00\x04\x7f\x0f\x80\x0f\xa0\x17\x00\x02\xfe\xff\x00\x04\x80\x0f\x7f\x0f\xa0\x17\x00\x02\xfe\xff\x00\x04\x80\x0f\x80\x0f\x9f\x17\x00\x02",
+        &mut block,
+        &mut staged,
+        &mut live,
+        &mut gains,
+        &mut reply,
+    );
     spoil(&mut block);
     io::write_all(1, b"a setting out of range\n");
     run(
@@ -110,6 +120,10 @@ fn take_step(
         io::write_all(1, b"  reset\n");
         return start;
     }
+    if n == 65534 {
+        lend_parts(script, start, block, staged, live, gains, reply);
+        return start + 10;
+    }
     let end = start + n;
     if script.len() < end {
         io::write_all(1, b"  cut\n");
@@ -119,11 +133,125 @@ fn take_step(
     end
 }
 
-// Gains that no packet can have stored: lent tables are taken as they lie.
-fn lend_large(gains: &mut [u16]) {
-    if 6 < gains.len() {
-        gains[5] = 9000;
-        gains[6] = 65535;
+// A reset and then a packet, on parts of the lists that are as long as the script says; and what some places of the lists hold then.
+fn lend_parts(
+    script: &[u8],
+    at: usize,
+    block: &mut [u8],
+    staged: &mut [u16],
+    live: &mut [u16],
+    gains: &mut [u16],
+    reply: &mut [u8],
+)
+    requires { ⌜ at ≤ length (now script) + 2 ⌝ }
+{
+    let b = wire::word(script, at);
+    let s = wire::word(script, at + 2);
+    let l = wire::word(script, at + 4);
+    let g = wire::word(script, at + 6);
+    let r = wire::word(script, at + 8);
+    reset_part(block, staged, live, gains, b, s, l, g);
+    send_part(block, staged, live, gains, reply, b, s, l, g, r);
+    tell(block, staged, live, gains);
+}
+
+// A packet on parts that are no longer than the lists.
+fn send_part(
+    block: &mut [u8],
+    staged: &mut [u16],
+    live: &mut [u16],
+    gains: &mut [u16],
+    reply: &mut [u8],
+    b: usize,
+    s: usize,
+    l: usize,
+    g: usize,
+    r: usize,
+) {
+    if block.len() < b {
+        return;
+    }
+    if staged.len() < s {
+        return;
+    }
+    if live.len() < l {
+        return;
+    }
+    if gains.len() < g {
+        return;
+    }
+    if reply.len() < r {
+        return;
+    }
+    send(
+        b"\x44\x11\x01",
+        &mut block[..b],
+        &mut staged[..s],
+        &mut live[..l],
+        &mut gains[..g],
+        &mut reply[..r],
+    );
+}
+
+// A reset on such parts.
+fn reset_part(
+    block: &mut [u8],
+    staged: &mut [u16],
+    live: &mut [u16],
+    gains: &mut [u16],
+    b: usize,
+    s: usize,
+    l: usize,
+    g: usize,
+) {
+    if block.len() < b {
+        return;
+    }
+    if staged.len() < s {
+        return;
+    }
+    if live.len() < l {
+        return;
+    }
+    if gains.len() < g {
+        return;
+    }
+    let status = controller16::reset(
+        &mut block[..b],
+        &mut staged[..s],
+        &mut live[..l],
+        &mut gains[..g],
+    );
+    io::write_all(1, b"  reset -> ");
+    io::print_decimal(1, status as u64);
+    io::write_all(1, b"\n");
+}
+
+fn tell(block: &[u8], staged: &[u16], live: &[u16], gains: &[u16]) {
+    io::write_all(1, b"  left ");
+    io::print_decimal(1, wire::byte(block, 0) as u64);
+    io::write_all(1, b" ");
+    io::print_decimal(1, seventh(staged));
+    io::write_all(1, b" ");
+    io::print_decimal(1, seventh(live));
+    io::write_all(1, b" ");
+    io::print_decimal(1, seventh(gains));
+    io::write_all(1, b"\n");
+}
+
+fn seventh(table: &[u16]) -> u64 {
+    if 6 < table.len() { wide(table[6]) } else { 0 }
+}
+
+fn wide(x: u16) -> u64 {
+    x as u64
+}
+
+// Numbers that no packet can have stored in the gains: lent tables are taken as they lie.
+fn lend_large(table: &mut [u16]) {
+    if 6 < table.len() {
+        table[5] = 9000;
+        table[6] = 65535;
     }
 }
 

@@ -10,8 +10,9 @@ use lib.Dec.{eqb, leb}
 use Rattle.wire.specs.Numbers.{byteAt}
 use Rattle.opcode.specs.declared.Field.{Field}
 use Rattle.opcode.specs.Fields.{byte, takes, number, fault}
+use Rattle.opcode.specs.Commands.{commandOf}
 use Rattle.opcode.proofs.Accepts.Fields.{span, least}
-use Rattle.settings.specs.Ranges.{right, forEach}
+use Rattle.settings.specs.Ranges.{right, fieldsOf, behindPort, forEach, updateMode, deviceFields}
 
 pub span-append : (fs gs : List Field) → span (fs ++ gs) ≡ span fs + span gs
 span-append [] gs = omega arith
@@ -24,6 +25,22 @@ right-append (f ∷ fs) gs d at =
     let there : at + (f .size + span fs) ≡ at + f .size + span fs = omega arith in
     rw (there, right-append fs gs d (at + f .size))
     (sym (and-assoc (takes f (number (f .size) d at)) (right fs d (at + f .size)) (right gs d (at + f .size + span fs))))
+
+five : (e f g h k : List Field) (d : List ℕ) (at : ℕ)
+    → right (e ++ f ++ g ++ h ++ k) d at
+    ≡ (right e d at && right f d (at + span e) && right g d (at + span (e ++ f)) && right h d (at + span (e ++ f ++ g))
+    && right k d (at + span (e ++ f ++ g ++ h)))
+five e f g h k d at = simp right-append
+
+-- The runs from place 497 on.
+pub device-runs : (d : List ℕ)
+    → right deviceFields d 497
+    ≡ (right (updateMode ∷ []) d 497 && right (forEach 88 (behindPort 0x60)) d 498 && right (forEach 12 (behindPort 0x65)) d 762
+    && right (fieldsOf 0x6C) d 834
+    && right (forEach 3 (behindPort 0x6D)) d 835)
+unfolding deviceFields commandOf
+device-runs d =
+    five (updateMode ∷ []) (forEach 88 (behindPort 0x60)) (forEach 12 (behindPort 0x65)) (fieldsOf 0x6C) (forEach 3 (behindPort 0x6D)) d 497
 
 -- The place of the first fault is behind the last field exactly if each field takes its number.
 fault-step : (t r : Bool) (place at past : ℕ) → at < past → eqb place past ≡ r → eqb (cond t place at) past ≡ (t && r)

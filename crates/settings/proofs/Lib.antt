@@ -4,3 +4,4 @@ pub mod Resets
 pub mod Fits
 pub mod Same
 pub mod Stays
+pub mod Allowed

@@ -13,7 +13,7 @@ use Rattle.wire.specs.Tables.{bytes}
 use Rattle.wire.proofs.Laws.{sets-append}
 use Rattle.wire.proofs.Tables.{length-halves, halves-append}
 use Rattle.settings.specs.Reset.{count-up, resetShape, resetBlock}
-use Rattle.settings.specs.Spread.{spreadOver}
+use Rattle.settings.specs.Internal.{spreadOver}
 
 -- One number more.
 length-counted : (i n : ℕ) → length (count-up i n) ≡ n

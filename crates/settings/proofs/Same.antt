@@ -14,7 +14,7 @@ use Rattle.wire.specs.Numbers.{byteAt, wordAt, longAt}
 use Rattle.opcode.specs.declared.Field.{Field}
 use Rattle.opcode.specs.Fields.{number, wordsAt}
 use Rattle.opcode.specs.Commands.{commandOf}
-use Rattle.opcode.proofs.Accepts.Tests.{and-left, and-right}
+use Rattle.wire.proofs.Tests.{and-left, and-right}
 use Rattle.opcode.proofs.Accepts.Fields.{span}
 use Rattle.settings.specs.Ranges.{right, fieldsOf, shapeRight}
 

@@ -6,18 +6,18 @@ use mathlib.Core.Bool.{true}
 use mathlib.Core.List.{List, [], _∷_, _++_, append-assoc}
 use native.Mathlib.Nat.{suc-mul}
 use native.Mathlib.Omega.{arith}
-use borrow.Author.Tests.{eq-eqb}
+use borrow.Author.Tests.{eq-eqb, eqb-true}
 use lib.ListN.{length, take, drop, getD, length-drop}
 use lib.Seq.{paste}
 use Rattle.opcode.specs.declared.Field.{Field}
-use Rattle.opcode.specs.Fields.{byte, fault, wordsAt, riseFrom, rise}
+use Rattle.opcode.specs.Fields.{fault, wordsAt, riseFrom, rise}
 use Rattle.opcode.specs.Options.{isRead}
 use Rattle.opcode.specs.Commands.{commandOf, fixed, flag}
 use Rattle.opcode.specs.Allowed.{WriteData, Allowed}
-use Rattle.opcode.proofs.Accepts.Tests.{told}
-use Rattle.opcode.proofs.Accepts.Fields.{All, all-fault, span, least}
+use Rattle.wire.proofs.Tests.{told}
+use Rattle.opcode.proofs.Accepts.Fields.{All, all-fault, fault-all, span, least}
 use Rattle.settings.specs.Layout.{placeOf, stored}
-use Rattle.settings.specs.Ranges.{right, fieldsOf, behindPort, forEach, pictureFields, deviceFields, shapeRight, settingsRight}
+use Rattle.settings.specs.Ranges.{right, fieldsOf, behindPort, forEach, updateMode, pictureFields, deviceFields, shapeRight, settingsRight}
 use Rattle.settings.specs.Reset.{resetShape, resetBlock}
 use Rattle.settings.proofs.Laws.{span-append, right-append, fault-right}
 use Rattle.settings.proofs.Fits.{own-slot, place-fits, write-long}
@@ -60,8 +60,13 @@ each-span : (fs : List Field) (k : ℕ) → span (forEach k fs) ≡ k * span fs
 each-span fs zero = omega arith
 each-span fs (suc k) = omega (arith, span-append fs (forEach k fs), each-span fs k, suc-mul k (span fs))
 
+-- A run's test holds exactly if each field takes its number.
 pub all-right : (fs : List Field) → 0 < least fs → (d : List ℕ) (at : ℕ) → All fs d at → right fs d at ≡ true
 all-right fs h d at a = sym (fault-right fs h d at) ∙ eq-eqb (fault fs d at) (at + span fs) (all-fault fs d at a)
+
+pub right-all : (fs : List Field) → 0 < least fs → (d : List ℕ) (at : ℕ) → right fs d at ≡ true → All fs d at
+right-all fs h d at e =
+    fault-all fs h d at (omega (arith, eqb-true (fault fs d at) (at + span fs) (fault-right fs h d at ∙ e)))
 
 -- A copy into the block.
 module _ (block s : List ℕ) (place n : ℕ) (room : place + n ≤ length block) (long : n ≤ length s) where
@@ -167,7 +172,7 @@ module _ (op : ℕ) (d block : List ℕ)
 
 -- The fields from place 497 on, in front of and behind those of a command.
 abbrev beforePwm : List Field
-beforePwm = (byte 0 0 ∷ []) ++ forEach 88 (behindPort 0x60)
+beforePwm = (updateMode ∷ []) ++ forEach 88 (behindPort 0x60)
 
 abbrev beforeLock : List Field
 beforeLock = beforePwm ++ forEach 12 (behindPort 0x65)
@@ -201,11 +206,11 @@ write-stays {op} {d} bytes (WriteData.freeze h) m block room long q =
     picture-stays op d block room long q (take 6 pictureFields) (fieldsOf 0x1D) [] refl (omega arith) (omega arith)
 write-stays {op} {d} bytes (WriteData.apply h) m block room long q = enable-stays op d block room long q (omega arith)
 write-stays {op} {d} bytes WriteData.update m block room long q =
-    device-stays op d block room long q [] (byte 0 0 ∷ []) (drop 1 deviceFields) 1 0 refl (omega arith) (omega arith)
+    device-stays op d block room long q [] (updateMode ∷ []) (drop 1 deviceFields) 1 0 refl (omega arith) (omega arith)
 write-stays {op} {d} bytes (WriteData.pin {p} h i j k) m block room long q =
-    device-stays op d block room long q (byte 0 0 ∷ []) (behindPort 0x60) behindPins 88 p refl (omega arith) (omega arith)
+    device-stays op d block room long q (updateMode ∷ []) (behindPort 0x60) behindPins 88 p refl (omega arith) (omega arith)
 write-stays {op} {d} bytes (WriteData.level {p} h k) m block room long q =
-    device-stays op d block room long q (byte 0 0 ∷ []) (flag ∷ []) behindPins 264 (3 * p + 1) refl (omega arith) (omega arith)
+    device-stays op d block room long q (updateMode ∷ []) (flag ∷ []) behindPins 264 (3 * p + 1) refl (omega arith) (omega arith)
 write-stays {op} {d} bytes (WriteData.pwm {port} h i j k l) m block room long q =
     let own = own-slot d h in
     device-stays op d block room long q beforePwm (behindPort 0x65) behindPwm 12 port refl (omega arith) (omega arith)

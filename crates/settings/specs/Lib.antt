@@ -1,5 +1,6 @@
--- The settings, lent as a block of 1,024 bytes: where each stands, its range, and reset.
+-- The settings, lent as a block of 1,024 bytes: where each stands, what it may be, the test of that, and reset.
 pub mod Layout
+pub mod Allowed
 pub mod Ranges
 pub mod Reset
-pub mod Spread
+pub mod Internal

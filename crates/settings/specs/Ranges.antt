@@ -1,6 +1,8 @@
 -- The range of every stored field. Refusal 1: "a setting, staged or live, lies outside its range below (in mode 1 any shape but 62 × 32;
 -- lists not rising, in either mode)". A field's range is that of the write that stores it.
 use Prim.Native.Nat.{ℕ, zero, suc, _+_}
+use mathlib.Core.Path.{_≡_}
+use mathlib.Core.Logic.{_↔_}
 use mathlib.Core.Bool.{Bool, true, _&&_, _||_}
 use mathlib.Core.List.{List, [], _∷_, _++_}
 use lib.ListN.{drop}
@@ -9,6 +11,7 @@ use Rattle.opcode.specs.declared.Field.{Field}
 use Rattle.opcode.specs.Fields.{byte, takes, number, wordsAt, rise}
 use Rattle.opcode.specs.Commands.{commandOf}
 use Rattle.settings.specs.Layout.{stagedShape, enable, liveShape, smoothTable, modeAt, columnsAt, rowsAt}
+use Rattle.settings.specs.Allowed.{SettingsAllowed}
 
 -- A command's stored fields, and those behind the pin or port byte.
 abbrev pub fieldsOf : ℕ → List Field
@@ -27,10 +30,14 @@ unfoldable pub pictureFields : List Field
 pictureFields =
     fieldsOf 0x11 ++ fieldsOf 0x12 ++ fieldsOf 0x13 ++ fieldsOf 0x1A ++ fieldsOf 0x1B ++ fieldsOf 0x1C ++ fieldsOf 0x1D
 
--- From place 497: update mode (39h: 0 alone), 88 pins, 12 PWM ports, EEPROM lock, 3 UART ports.
+-- 39h: 0 alone is stored.
+abbrev pub updateMode : Field
+updateMode = byte 0 0
+
+-- From place 497: update mode, 88 pins, 12 PWM ports, EEPROM lock, 3 UART ports.
 unfoldable pub deviceFields : List Field
 deviceFields =
-    (byte 0 0 ∷ []) ++ forEach 88 (behindPort 0x60) ++ forEach 12 (behindPort 0x65) ++ fieldsOf 0x6C ++ forEach 3 (behindPort 0x6D)
+    (updateMode ∷ []) ++ forEach 88 (behindPort 0x60) ++ forEach 12 (behindPort 0x65) ++ fieldsOf 0x6C ++ forEach 3 (behindPort 0x6D)
 
 -- Every one of these fields, one behind the other from a place of the block on, takes its number.
 unfoldable pub right : List Field → List ℕ → ℕ → Bool
@@ -58,3 +65,8 @@ settingsRight block =
     && shapeRight block liveShape
     && right (fieldsOf 0x38) block smoothTable
     && right deviceFields block 497
+
+-- What `in_range` promises: its answer is the test's, and that is true exactly if every setting is as it may be.
+pub record InRange (block : List ℕ) (r : Bool) : Type 0 where
+  pub test : r ≡ settingsRight block
+  pub exactly : (r ≡ true) ↔ SettingsAllowed block

@@ -9,16 +9,17 @@ ghost use Rattle.wire.specs.Numbers.{byteAt, wordAt};
 ghost use Rattle.wire.specs.Tables.{bytes};
 ghost use Rattle.opcode.specs.Fields.{from-to, takes};
 ghost use Rattle.settings.specs.Layout.{slot, placeOf, modeAt, columnsAt, rowsAt};
+ghost use Rattle.settings.specs.Allowed.{SettingsAllowed};
 ghost use Rattle.settings.specs.Ranges.{right, behindPort, forEach, pictureFields, deviceFields};
-ghost use Rattle.settings.specs.Ranges.{rising, shapeRight, settingsRight};
+ghost use Rattle.settings.specs.Ranges.{rising, shapeRight, InRange};
 ghost use Rattle.settings.specs.Reset.{count-up, resetShape, resetBlock};
-ghost use Rattle.settings.specs.Spread.{spreadOver};
+ghost use Rattle.settings.specs.Internal.{spreadOver};
 
 // Whether every stored setting, staged and live, lies in its range. The bytes past them are not judged. Every packet asks this, so
 // the parts are judged one after another without an early return, each joined to what those before it came to.
 pub fn in_range(block: &[u8]) -> bool
     requires { ⌜ length (now block) ≡ 1024 ⌝ }
-    ensures { λ r. ⌜ r ≡ settingsRight (now (block .entry)) ⌝ }
+    ensures { λ r. ⌜ InRange (now (block .entry)) r ⌝ }
 {
     let fine = picture_in_range(block);
     let fine = both(fine, shape_in_range(block, 8));
@@ -232,7 +233,7 @@ fn slot_of(port: usize) -> usize
 // The whole block as it is after reset: zeros, and over them the two shapes, the smooth table's counts and the PWM frequencies.
 pub fn reset_block(block: &mut [u8])
     requires { ⌜ length (now block) ≡ 1024 ⌝ }
-    ensures { λ _. ⌜ now (block .exit) ≡ resetBlock ⌝ }
+    ensures { λ _. ⌜ (now (block .exit) ≡ resetBlock) × SettingsAllowed (now (block .exit)) ⌝ }
 {
     spread(block, 0, 1, 0, 1024);
     reset_shape(block, 8);

@@ -12,8 +12,8 @@ use Rattle.wire.proofs.Tables.{length-halves, halves-below}
 use Rattle.packet.specs.Making.{packetOf}
 use Rattle.upload.specs.Plan.{Part, packetFor, packetsOf, joined, batchOf}
 use Rattle.upload.specs.Judge.{MapOf}
-use Rattle.upload.specs.Parts.{Fits, Rising, none, next}
-use Rattle.upload.proofs.Lists.{plan-rising}
+use Rattle.upload.specs.Parts.{Fits, InOrder, none, next}
+use Rattle.upload.proofs.Lists.{plan-in-order}
 
 pub packet-form : (n : ℕ) (wanted : List ℕ) (p : Part) → length wanted ≡ 2 * n → Fits n p
     → packetFor wanted p
@@ -58,11 +58,11 @@ module _ (n : ℕ) (small : n ≤ 65536) (wanted : List ℕ) (w : MapOf n wanted
       rw (packet-form n wanted p (w .long) f)
       (below-form (p .start) (p .count) (bytes pts) (omega arith) (f .few) points)
 
-  parts-bytes : {i : ℕ} {ps : List Part} → Rising n i ps → (k : ℕ) → getD (joined (map (packetFor wanted) ps)) k 0 < 256
+  parts-bytes : {i : ℕ} {ps : List Part} → InOrder n i ps → (k : ℕ) → getD (joined (map (packetFor wanted) ps)) k 0 < 256
   unfolding joined
   parts-bytes none k = lit< tt
   parts-bytes (next {p = p} {ps = ps} l f r) k = below-append (packetFor wanted p) (joined (map (packetFor wanted) ps)) (packet-bytes p f) (λ j. parts-bytes r j) k
 
   pub batch-bytes : (held : List ℕ) → MapOf n held → (k : ℕ) → getD (batchOf held wanted) k 0 < 256
   unfolding batchOf packetsOf
-  batch-bytes held h k = parts-bytes (plan-rising n held wanted (h .long) (w .long)) k
+  batch-bytes held h k = parts-bytes (plan-in-order n held wanted (h .long) (w .long)) k

@@ -1,4 +1,4 @@
--- The plan is the list that document 01 fixes: of the rising lists of parts that turn held into wanted by the judge of demand 3 it costs least, of
+-- The plan is the list that document 01 fixes: of the lists of parts in order that turn held into wanted by the judge of demand 3 it costs least, of
 -- the cheapest it has the lexicographically least counts, and no other list has both.
 use Prim.Native.Nat.{ℕ, zero, suc, _+_, _-_, _*_, _≤_, _<_}
 use mathlib.Core.Path.{_≡_, refl, sym, ap, _∙_}
@@ -14,13 +14,13 @@ use Rattle.packet.specs.Points.{mapAfter}
 use Rattle.upload.specs.Cost.{differs}
 use Rattle.upload.specs.Plan.{Part, planOf, cost, packetFor, packetsOf}
 use Rattle.upload.specs.Judge.{mapsAfter, Turns, MapOf}
-use Rattle.upload.specs.Parts.{part, Rising, none, next, counts, Less, here, later, Uploads, Chosen}
-use Rattle.upload.proofs.Covers.{Covers, done, inside, skip, begin, First, first, rising-from, covers-least}
+use Rattle.upload.specs.Parts.{part, InOrder, none, next, counts, Less, here, later, Uploads, Chosen}
+use Rattle.upload.proofs.Covers.{Covers, done, inside, skip, begin, First, first, in-order-from, covers-least}
 use Rattle.upload.proofs.Differs.{differs-long, differs-self}
-use Rattle.upload.proofs.Lists.{part-after, demand3, plan-rising, plan-cost}
+use Rattle.upload.proofs.Lists.{part-after, demand3, plan-in-order, plan-cost}
 
 -- Points before all parts stay as they are.
-untouched : (n : ℕ) (w : List ℕ) → length w ≡ 2 * n → {i : ℕ} {ps : List Part} → Rising n i ps → (m : List ℕ) → length m ≡ 2 * n → (j : ℕ) → j < i
+untouched : (n : ℕ) (w : List ℕ) → length w ≡ 2 * n → {i : ℕ} {ps : List Part} → InOrder n i ps → (m : List ℕ) → length m ≡ 2 * n → (j : ℕ) → j < i
     → getD (differs (mapsAfter n (map (packetFor w) ps) m) w) j false ≡ getD (differs m w) j false
 unfolding mapsAfter
 untouched n w wide none m long j h = refl
@@ -43,10 +43,10 @@ behind-part s c all h =
     rw (← append-assoc (take s all) (replicate c false) (drop (s + c) all))
     (drop-at (take s all ++ replicate c false) (drop (s + c) all) (s + c) (simp (length-append, length-take, length-replicate) (omega arith)))
 
--- A rising list that turns a map into wanted covers all that differs. Behind the point and the open packet the map is still as it was.
+-- A list in order that turns a map into wanted covers all that differs. Behind the point and the open packet the map is still as it was.
 module _ (n : ℕ) (w : List ℕ) (wide : length w ≡ 2 * n) where
   -- A point before all parts does not differ.
-  same-point : (i : ℕ) {d : Bool} {ds : List Bool} {ps : List Part} (m : List ℕ) → length m ≡ 2 * n → i < n → Rising n (suc i) ps
+  same-point : (i : ℕ) {d : Bool} {ds : List Bool} {ps : List Part} (m : List ℕ) → length m ≡ 2 * n → i < n → InOrder n (suc i) ps
       → drop i (differs m w) ≡ d ∷ ds → Turns n m w (map (packetFor w) ps) → d ≡ false
   same-point i {d} {ds} {ps} m long l r h t =
       sym (ap (λ (l : List Bool). getD l 0 false) h)
@@ -58,13 +58,13 @@ module _ (n : ℕ) (w : List ℕ) (wide : length w ≡ 2 * n) where
       ∙ getD-replicate n i false false l
 
   turns-cover : (ds : List Bool) (i k : ℕ) (ps : List Part) (m : List ℕ) → length m ≡ 2 * n → i + length ds ≡ n → i + k ≤ n
-      → Rising n (i + k) ps → drop (i + k) (differs m w) ≡ drop k ds → Turns n m w (map (packetFor w) ps) → Covers i k ds ps
+      → InOrder n (i + k) ps → drop (i + k) (differs m w) ≡ drop k ds → Turns n m w (map (packetFor w) ps) → Covers i k ds ps
   unfolding mapsAfter
   turns-cover [] i zero [] m long e l none h t = done
   turns-cover [] i zero (p ∷ ps) m long e l (next b f r) h t = absurd (omega arith)
   turns-cover [] i (suc k) ps m long e l r h t = absurd (omega arith)
   turns-cover (d ∷ ds) i (suc k) ps m long e l r h t =
-      inside (turns-cover ds (suc i) k ps m long (omega arith) (omega arith) (rising-from (suc i + k) (omega arith) r) (behind (i + suc k) 0 (suc i + k) (differs m w) h (omega arith)) t)
+      inside (turns-cover ds (suc i) k ps m long (omega arith) (omega arith) (in-order-from (suc i + k) (omega arith) r) (behind (i + suc k) 0 (suc i + k) (differs m w) h (omega arith)) t)
   turns-cover (d ∷ ds) i zero [] m long e l none h t =
       let here : drop i (differs m w) ≡ d ∷ ds = behind (i + 0) 0 i (differs m w) h (omega arith) in
       rw (same-point i {ps = []} m long (omega arith) none here t)
@@ -87,10 +87,10 @@ module _ (n : ℕ) (w : List ℕ) (wide : length w ≡ 2 * n) where
             ∙ behind i (suc c) (p .start + p .count) (differs m w) here (omega arith) in
             rw same
             (begin {c = c} (omega (arith, f .few))
-            (turns-cover ds (suc i) c ps m′ (after .long) (omega arith) (omega (arith, f .within)) (rising-from (suc i + c) (omega arith) r) rest t))
+            (turns-cover ds (suc i) c ps m′ (after .long) (omega arith) (omega (arith, f .within)) (in-order-from (suc i + c) (omega arith) r) rest t))
         | no s ↦
-            let r′ : Rising n (suc i + 0) (p ∷ ps) = next {i = suc i + 0} {p = p} (omega arith) f r in
-            rw (same-point i {ps = p ∷ ps} m long (omega arith) (rising-from (suc i) (omega arith) r′) here t)
+            let r′ : InOrder n (suc i + 0) (p ∷ ps) = next {i = suc i + 0} {p = p} (omega arith) f r in
+            rw (same-point i {ps = p ∷ ps} m long (omega arith) (in-order-from (suc i) (omega arith) r′) here t)
             (skip (turns-cover ds (suc i) 0 (p ∷ ps) m long (omega arith) (omega arith) r′ (behind (i + 0) 1 (suc i + 0) (differs m w) h (omega arith)) t))
       ]
 
@@ -105,7 +105,7 @@ module _ (n : ℕ) (held wanted : List ℕ) (h : MapOf n held) (w : MapOf n want
   pub uploads-cover : {ps : List Part} → Uploads n held wanted ps → Covers 0 0 (differs held wanted) ps
   uploads-cover {ps} u =
       turns-cover n wanted (w .long) (differs held wanted) 0 0 ps held (h .long) (omega (arith, differs-long n held wanted (h .long) (w .long))) (omega arith)
-      (u .rising) refl (u .turns)
+      (u .in-order) refl (u .turns)
 
   -- A list that costs no more than the plan is the plan, or has greater counts.
   pub plan-first : (ps : List Part) → Uploads n held wanted ps → cost ps ≤ cost (planOf held wanted) → First (planOf held wanted) ps
@@ -116,7 +116,7 @@ module _ (n : ℕ) (held wanted : List ℕ) (h : MapOf n held) (w : MapOf n want
   unfolding packetsOf
   plan-chosen =
       record {
-        uploads = record { rising = plan-rising n held wanted (h .long) (w .long); turns = demand3 n held wanted h w .turns };
+        uploads = record { in-order = plan-in-order n held wanted (h .long) (w .long); turns = demand3 n held wanted h w .turns };
         cheapest = λ qs u. omega (arith, plan-cost n held wanted (h .long) (w .long), covers-least (omega arith) (uploads-cover u));
         earliest = λ qs u e. weaker qs (plan-first qs u (omega arith));
       }

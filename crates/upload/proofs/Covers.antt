@@ -11,7 +11,7 @@ use lib.ListN.{length}
 use lib.Dec.{leb}
 use Rattle.upload.specs.Cost.{best, least, rooms, more}
 use Rattle.upload.specs.Plan.{Part, planFrom, cost}
-use Rattle.upload.specs.Parts.{part, Rising, none, next, counts, Less, here, later}
+use Rattle.upload.specs.Parts.{part, InOrder, none, next, counts, Less, here, later}
 use Rattle.upload.proofs.Least.{least-count}
 use Rattle.upload.proofs.Best.{best-falls, best-opens}
 
@@ -126,21 +126,21 @@ first {ds} {qs} v h = go (ahead v 0 (omega arith) (omega arith) (omega (arith, p
     go (fewer l) = absurd (omega arith)
     go (alike e f) = f
 
--- Lists that cover are rising lists of parts.
+-- Lists that cover are lists of parts in order.
 pub covers-inside : {i k : ℕ} {ds : List Bool} {ps : List Part} → Covers i k ds ps → k ≤ length ds
 covers-inside done = omega arith
 covers-inside (inside v) = omega (arith, covers-inside v)
 covers-inside (skip v) = omega arith
 covers-inside (begin l v) = omega arith
 
-pub rising-from : {n j : ℕ} {ps : List Part} (i : ℕ) → i ≤ j → Rising n j ps → Rising n i ps
-rising-from i h none = none
-rising-from i h (next {p = p} l f r) = next {i = i} {p = p} (omega arith) f r
+pub in-order-from : {n j : ℕ} {ps : List Part} (i : ℕ) → i ≤ j → InOrder n j ps → InOrder n i ps
+in-order-from i h none = none
+in-order-from i h (next {p = p} l f r) = next {i = i} {p = p} (omega arith) f r
 
-pub covers-rising : (n : ℕ) {i k : ℕ} {ds : List Bool} {ps : List Part} → i + length ds ≤ n → Covers i k ds ps → Rising n (i + k) ps
-covers-rising n h done = none
-covers-rising n {i} h (inside {k = k} v) = rising-from (i + suc k) (omega arith) (covers-rising n (omega arith) v)
-covers-rising n {i} h (skip v) = rising-from (i + 0) (omega arith) (covers-rising n (omega arith) v)
-covers-rising n {i} h (begin {c = c} l v) =
+pub covers-in-order : (n : ℕ) {i k : ℕ} {ds : List Bool} {ps : List Part} → i + length ds ≤ n → Covers i k ds ps → InOrder n (i + k) ps
+covers-in-order n h done = none
+covers-in-order n {i} h (inside {k = k} v) = in-order-from (i + suc k) (omega arith) (covers-in-order n (omega arith) v)
+covers-in-order n {i} h (skip v) = in-order-from (i + 0) (omega arith) (covers-in-order n (omega arith) v)
+covers-in-order n {i} h (begin {c = c} l v) =
     next {i = i + 0} {p = part i (suc c)} (omega arith) (record { some = omega arith; few = omega arith; within = omega (arith, covers-inside v) })
-    (rising-from (i + suc c) (omega arith) (covers-rising n (omega arith) v))
+    (in-order-from (i + suc c) (omega arith) (covers-in-order n (omega arith) v))

@@ -8,7 +8,7 @@ use borrow.Author.Tests.{eq-eqb}
 use lib.ListN.{length, take, drop, replicate, length-take, length-drop, take-append-drop}
 use lib.Seq.{take-nil, drop-nil, take-length, drop-drop, paste}
 use lib.Dec.{eqb}
-use Rattle.opcode.proofs.Accepts.Tests.{told}
+use Rattle.wire.proofs.Tests.{told}
 use Rattle.upload.specs.Cost.{differs}
 
 double : (n : ℕ) → 2 * suc n ≡ suc (suc (2 * n))

@@ -7,12 +7,8 @@ use native.Mathlib.Omega.{arith}
 use borrow.Author.Tests.{leb-true, leb-false}
 use lib.ListN.{length, drop, getD}
 use lib.Dec.{leb}
-use Rattle.upload.specs.Cost.{best, least, rooms, more}
+use Rattle.upload.specs.Cost.{best, least, rooms, more, roomAt, SmallestCount}
 use Rattle.upload.proofs.Best.{best-falls, best-end}
-
--- The room's number at a point, and at the end.
-abbrev pub roomAt : List Bool → ℕ → ℕ
-roomAt ds i = getD (rooms ds) i 0
 
 pub length-rooms : (ds : List Bool) → length (rooms ds) ≡ suc (length ds)
 unfolding rooms
@@ -77,22 +73,7 @@ least-count [] (suc k) = stops [] (suc k) refl refl
 least-count (d ∷ ds) zero = stops (d ∷ ds) 0 refl refl
 least-count (d ∷ ds) (suc k) = further _ d ds k refl (least-count ds k)
 
--- The room's number at a point that does not differ, and at one that does: a packet of count points costs 6 + 4 × count and what is left
--- behind it. Of the counts from 1 to 126 within the map it is the least, and the plan's count is the smallest that attains it.
-pub room-same : (ds : List Bool) → roomAt (false ∷ ds) 0 ≡ roomAt (false ∷ ds) 1
-unfolding best rooms
-room-same [] = refl
-room-same (d ∷ ds) = refl
-
-pub record Packet (ds : List Bool) (count : ℕ) : Type 0 where
-  pub some : 1 ≤ count
-  pub few : count ≤ 126
-  pub within : count ≤ length (true ∷ ds)
-  pub attained : roomAt (true ∷ ds) 0 ≡ 6 + 4 * count + roomAt (true ∷ ds) count
-  pub lower : (c : ℕ) → 1 ≤ c → c ≤ 126 → c ≤ length (true ∷ ds) → roomAt (true ∷ ds) 0 ≤ 6 + 4 * c + roomAt (true ∷ ds) c
-  pub smallest : (c : ℕ) → 1 ≤ c → c < count → roomAt (true ∷ ds) 0 < 6 + 4 * c + roomAt (true ∷ ds) c
-
-pub room-packet : (ds : List Bool) → Packet ds (suc (more 125 (rooms ds)))
+pub room-packet : (ds : List Bool) → SmallestCount ds (suc (more 125 (rooms ds)))
 unfolding rooms
 room-packet ds =
     record {

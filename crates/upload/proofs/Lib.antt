@@ -1,6 +1,6 @@
 -- Laws of upload planning: the least bytes; the lists that cover what differs; what packets do to maps; and the theorems: demand 3 about whole lists
--- of packets, that the plan is the list that document 01 fixes, what the working room holds (RoomMeans), and that planning on bytes answers as planning
--- on numbers does (Alike). Rooms, Walk, Site and Outcome speak of the code that plans: its loops, and what it promises.
+-- of packets, that the plan is the list that document 01 fixes, and what the working room holds (RoomMeans). Rooms, Walk, Site and Outcome speak of the
+-- code that plans: its loops, and what it promises.
 pub mod Best
 pub mod Least
 pub mod Rooms
@@ -14,6 +14,5 @@ pub mod Walk
 pub mod Outcome
 pub mod Site
 pub mod RoomMeans
-pub mod Alike
 pub mod Examples
 pub mod Small

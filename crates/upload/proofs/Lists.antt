@@ -11,10 +11,10 @@ use Rattle.packet.specs.Frame.{dataOf}
 use Rattle.packet.specs.Points.{startOf, pointsOf, countOf, acceptedAt, writePoints, mapAfter}
 use Rattle.upload.specs.Cost.{differs, best, rooms, more}
 use Rattle.upload.specs.Plan.{Part, planFrom, planOf, cost, packetFor, packetsOf, joined, batchOf}
-use Rattle.upload.specs.Judge.{mapsAfter, bytesOf, AllAccepted, MapOf, Demand3}
-use Rattle.upload.specs.Parts.{part, Fits, Rising}
+use Rattle.upload.specs.Judge.{mapsAfter, Turns, totalBytes, AllAccepted, MapOf}
+use Rattle.upload.specs.Parts.{part, Fits, InOrder}
 use Rattle.upload.proofs.Best.{one-packet, best-bound}
-use Rattle.upload.proofs.Covers.{Covers, done, inside, skip, begin, covers-inside, covers-rising, planned}
+use Rattle.upload.proofs.Covers.{Covers, done, inside, skip, begin, covers-inside, covers-in-order, planned}
 use Rattle.upload.proofs.Differs.{differs-long, differs-self, differs-none, cut, differs-write}
 use Rattle.upload.proofs.Reading.{sound, meant}
 
@@ -68,8 +68,8 @@ after n p m w long wide = go (acceptedAt n p) refl
         }
 
 pub owed-least : (n : ℕ) (w : List ℕ) → length w ≡ 2 * n → (ps : List (List ℕ)) (m : List ℕ) → length m ≡ 2 * n → mapsAfter n ps m ≡ w
-    → owed m w ≤ bytesOf ps
-unfolding mapsAfter bytesOf
+    → owed m w ≤ totalBytes ps
+unfolding mapsAfter totalBytes
 owed-least n w wide [] m long e =
     rw (e, differs-self n w wide, owed-none n) (omega arith)
 owed-least n w wide (p ∷ ps) m long e =
@@ -96,18 +96,18 @@ part-after n w m p wide long f =
           ∙ rw (differs-self (p .count) pts whole));
     }
 
--- Rising parts: their packets are accepted, and cost what the parts do.
-pub all-accepted : {n i : ℕ} {ps : List Part} (w : List ℕ) → length w ≡ 2 * n → Rising n i ps → AllAccepted n (map (packetFor w) ps)
-all-accepted w wide Rising.none = AllAccepted.none
-all-accepted {n} w wide (Rising.next {p = p} l f r) = AllAccepted.next (meant n w p wide f .taken) (all-accepted w wide r)
+-- Parts in order: their packets are accepted, and cost what the parts do.
+pub all-accepted : {n i : ℕ} {ps : List Part} (w : List ℕ) → length w ≡ 2 * n → InOrder n i ps → AllAccepted n (map (packetFor w) ps)
+all-accepted w wide InOrder.none = AllAccepted.none
+all-accepted {n} w wide (InOrder.next {p = p} l f r) = AllAccepted.next (meant n w p wide f .taken) (all-accepted w wide r)
 
-pub bytes-cost : {n i : ℕ} {ps : List Part} (w : List ℕ) → length w ≡ 2 * n → Rising n i ps → bytesOf (map (packetFor w) ps) ≡ cost ps
-unfolding bytesOf cost
-bytes-cost w wide Rising.none = refl
-bytes-cost {n} w wide (Rising.next {p = p} l f r) = omega (arith, bytes-cost w wide r, meant n w p wide f .size)
+pub bytes-cost : {n i : ℕ} {ps : List Part} (w : List ℕ) → length w ≡ 2 * n → InOrder n i ps → totalBytes (map (packetFor w) ps) ≡ cost ps
+unfolding totalBytes cost
+bytes-cost w wide InOrder.none = refl
+bytes-cost {n} w wide (InOrder.next {p = p} l f r) = omega (arith, bytes-cost w wide r, meant n w p wide f .size)
 
-pub length-joined : (ps : List (List ℕ)) → length (joined ps) ≡ bytesOf ps
-unfolding joined bytesOf
+pub length-joined : (ps : List (List ℕ)) → length (joined ps) ≡ totalBytes ps
+unfolding joined totalBytes
 length-joined [] = refl
 length-joined (p ∷ ps) = rw length-append (omega (arith, length-joined ps))
 
@@ -147,8 +147,8 @@ module _ (n : ℕ) (held wanted : List ℕ) (long : length held ≡ 2 * n) (wide
   unfolding planOf more
   plan-covers = planned (differs held wanted) 0 0 .covers
 
-  pub plan-rising : Rising n 0 (planOf held wanted)
-  plan-rising = covers-rising n (omega (arith, differs-long n held wanted long wide)) plan-covers
+  pub plan-in-order : InOrder n 0 (planOf held wanted)
+  plan-in-order = covers-in-order n (omega (arith, differs-long n held wanted long wide)) plan-covers
 
   pub plan-cost : cost (planOf held wanted) ≡ owed held wanted
   unfolding planOf more
@@ -156,15 +156,22 @@ module _ (n : ℕ) (held wanted : List ℕ) (long : length held ≡ 2 * n) (wide
 
   pub batch-cost : length (batchOf held wanted) ≡ cost (planOf held wanted)
   unfolding batchOf packetsOf
-  batch-cost = length-joined (packetsOf held wanted) ∙ bytes-cost wanted wide plan-rising
+  batch-cost = length-joined (packetsOf held wanted) ∙ bytes-cost wanted wide plan-in-order
 
 -- For every N, of which document 01 takes 1 to 1,984.
+-- Demand 3 of the batch that the definitions give.
+pub record Demand3 (n : ℕ) (held wanted : List ℕ) : Type 0 where
+  pub turns : Turns n held wanted (packetsOf held wanted)
+  pub accepted : AllAccepted n (packetsOf held wanted)
+  pub bytes : length (batchOf held wanted) ≡ totalBytes (packetsOf held wanted)
+  pub fewest : (ps : List (List ℕ)) → Turns n held wanted ps → length (batchOf held wanted) ≤ totalBytes ps
+
 pub demand3 : (n : ℕ) (held wanted : List ℕ) → MapOf n held → MapOf n wanted → Demand3 n held wanted
 unfolding packetsOf batchOf
 demand3 n held wanted h w =
     record {
       turns = covers-turn n wanted (w .long) (plan-covers n held wanted (h .long) (w .long)) (omega (arith, differs-long n held wanted (h .long) (w .long))) held (h .long) refl;
-      accepted = all-accepted wanted (w .long) (plan-rising n held wanted (h .long) (w .long));
+      accepted = all-accepted wanted (w .long) (plan-in-order n held wanted (h .long) (w .long));
       bytes = length-joined (packetsOf held wanted);
       fewest = λ ps e.
           omega (

@@ -1,80 +1,100 @@
--- What planning promises, from what its code leaves: on a refusal nothing changes; else demand 3 holds of the byte count answered, the plan is the one
--- that document 01 chooses, and the room holds the least bytes. Once for lists of numbers, and once for their bytes.
-use Prim.Native.Nat.{ℕ, _*_, _≤_}
-use mathlib.Core.Path.{_≡_, refl, sym}
-use mathlib.Core.Bool.{Bool, not, _&&_}
-use mathlib.Core.List.{List, [], _∷_}
+-- What planning promises, from what its code leaves: which refusal it gives, and that nothing changes then; else demand 3 holds of the byte count
+-- answered, the plan is the one that document 01 chooses, and the room holds the least bytes. Once for lists of numbers, and once for their bytes.
+use Prim.Native.Nat.{ℕ, _≤_, _*_}
+use mathlib.Core.Path.{_≡_, refl, sym, ap, _∙_}
+use mathlib.Core.Logic.{_↔_}
+use mathlib.Core.Bool.{Bool, true, false}
+use mathlib.Core.List.{List}
 use native.Mathlib.Omega.{arith}
-use borrow.Author.Tests.{eq-eqb, ne-eqb, le-leb, le-ltb, eqb-false}
-use lib.ListN.{length, length-map}
-use lib.Dec.{eqb, leb}
+use borrow.Author.Tests.{eqb-true, eq-eqb, ne-eqb, le-leb, le-ltb, eqb-false}
+use lib.ListN.{length, drop, length-map}
+use lib.Seq.{drop-at}
+use lib.Dec.{eqb}
 use Rattle.wire.specs.First.{first}
 use Rattle.wire.specs.Buffers.{over}
 use Rattle.wire.specs.Tables.{words, bytes, longs, longBytes}
 use Rattle.wire.proofs.Laws.{take-over}
-use Rattle.wire.proofs.Tables.{length-pairs}
-use Rattle.opcode.proofs.Accepts.Tests.{told, first-silent, or-left}
-use Rattle.upload.specs.Plan.{planOf, planNumbers, packetFor, packetsOf, batchOf}
+use Rattle.wire.proofs.Tables.{length-pairs, length-halves, pairs-halves, halves-drop, longs-bytes}
+use Rattle.wire.proofs.Tests.{told, or-left}
+use Rattle.upload.specs.Plan.{planOf, planNumbers, packetFor, packetsOf, joined, batchOf}
 use Rattle.upload.specs.Judge.{MapOf}
-use Rattle.upload.specs.Planning.{Sheets, sheets, sheetsIn, pointsWrong, planRefusals, bytePlanRefusals, planOut, roomOf, planned, plannedBytes, Fewest, PlanChosen, Planned, PlannedBytes}
-use Rattle.upload.proofs.Lists.{demand3, batch-cost, batch-bound}
+use Rattle.upload.specs.Planning.{Sheets, sheets, sheetsIn, sheetBytes, bytePlanOut, plannedBy, pointsWrong, lengthsWrong, refusalsWith, planRefusals, bytePlanRefusals, PlanOut, planOut, PointsRight, ListsRight, NumbersRight, BytesRight, PlanRefusals, roomOf, planned, plannedBytes, Fewest, PlanChosen, Planned, PlannedBytes}
+use Rattle.upload.proofs.Lists.{demand3, batch-cost, batch-bound, plan-equal}
 use Rattle.upload.proofs.Choice.{plan-chosen, chosen-only}
 use Rattle.upload.proofs.RoomMeans.{room-means}
 use Rattle.upload.proofs.Walk.{length-numbers, Walked}
 
--- The lengths that planning asks for, with so many numbers or bytes a point.
-pub record Fit (n each plans places : ℕ) (held wanted : List ℕ) (s : Sheets) : Type 0 where
-  pub some : 1 ≤ n
-  pub few : n ≤ 1984
-  pub held-long : length held ≡ each * n
-  pub wanted-long : length wanted ≡ each * n
-  pub plan-long : length (s .plan) ≡ plans
-  pub room-long : length (s .room) ≡ places
-  pub batch-long : 8032 ≤ length (s .batch)
+-- What is taken has no refusal.
+not-refused : {n : ℕ} {Right : Type 0} {s : Sheets} {o : PlanOut} → PointsRight n × Right → o .status ≡ 0 → PlanRefusals n Right s o
+not-refused r e =
+    record {
+      exactly = (λ z. r, λ r. e);
+      wrong-points = λ w. absurd (w (r .0));
+      wrong-length = λ p w. absurd (w (r .1));
+    }
 
-abbrev asked : ℕ → ℕ → ℕ → ℕ → List ℕ → List ℕ → Sheets → List (ℕ × Bool)
-asked n each plans places held wanted s =
-    (10, pointsWrong n)
-    ∷ (
-      1,
-      not
-          (eqb (length held) (each * n)
-          && eqb (length wanted) (each * n)
-          && eqb (length (s .plan)) plans
-          && eqb (length (s .room)) places
-          && leb 8032 (length (s .batch))),
-    )
-    ∷ []
+-- The tests of points and of lengths say what is right.
+points-tested : (n : ℕ) → (pointsWrong n ≡ false) ↔ PointsRight n
+points-tested n = (
+  λ e.
+      let none : n ≡ 0 → ⊥ = eqb-false n 0 (or-left _ _ e) in
+      record { some = omega arith; few = search (told, e) },
+  λ r. rw (ne-eqb n 0 (λ e. omega (arith, r .some)), le-ltb 1984 n (r .few)),
+)
 
--- Nothing is refused exactly if they are so.
-module _ (n each plans places : ℕ) (held wanted : List ℕ) (s : Sheets) where
-  pub fit : first (asked n each plans places held wanted s) ≡ 0 → Fit n each plans places held wanted s
-  fit e =
-      let silent = first-silent (asked n each plans places held wanted s) (omega arith) e in
-      let points = silent .0 in
-      let lengths = silent .1 .0 in
-      let none : n ≡ 0 → ⊥ = eqb-false n 0 (or-left _ _ points) in
-      record {
-        some = omega arith;
-        few = search (told, points);
-        held-long = search (told, lengths);
-        wanted-long = search (told, lengths);
-        plan-long = search (told, lengths);
-        room-long = search (told, lengths);
-        batch-long = search (told, lengths);
-      }
+module _ (each plans places n : ℕ) (held wanted : List ℕ) (s : Sheets) where
+  abbrev asked : List (ℕ × Bool)
+  asked = refusalsWith each plans places n held wanted s
 
-  pub taken : Fit n each plans places held wanted s → first (asked n each plans places held wanted s) ≡ 0
-  taken f =
-      rw (
-        ne-eqb n 0 (λ e. omega (arith, f .some)),
-        le-ltb 1984 n (f .few),
-        eq-eqb _ _ (f .held-long),
-        eq-eqb _ _ (f .wanted-long),
-        eq-eqb _ _ (f .plan-long),
-        eq-eqb _ _ (f .room-long),
-        le-leb _ _ (f .batch-long),
-      )
+  abbrev Right : Type 0
+  Right = ListsRight each plans places n held wanted s
+
+  lists-tested : (lengthsWrong each plans places n held wanted s ≡ false) ↔ Right
+  lists-tested = (
+    λ e.
+        let enough : 8032 ≤ length (s .batch) = search (told, e) in
+        record {
+          held-long = search (told, e);
+          wanted-long = search (told, e);
+          plan-long = search (told, e);
+          room-long = search (told, e);
+          batch-long = omega arith;
+        },
+    λ r.
+        let enough : 8032 ≤ length (s .batch) = omega (arith, r .batch-long) in
+        rw (
+          eq-eqb _ _ (r .held-long),
+          eq-eqb _ _ (r .wanted-long),
+          eq-eqb _ _ (r .plan-long),
+          eq-eqb _ _ (r .room-long),
+          le-leb _ _ enough,
+        ),
+  )
+
+  -- The number that the tests give, and nothing changed.
+  judged : PlanRefusals n Right s (planOut (first asked) 0 0 s)
+  judged = go (pointsWrong n) (lengthsWrong each plans places n held wanted s) refl refl
+    where
+      go : (a b : Bool) → pointsWrong n ≡ a → lengthsWrong each plans places n held wanted s ≡ b → PlanRefusals n Right s (planOut (first asked) 0 0 s)
+      go true b e f =
+          let no : PointsRight n → ⊥ = λ r. let z : _≡_ {A = ℕ} 0 1 = cc (points-tested n .1 r) in omega arith in
+          rw e (record { exactly = (λ z. absurd (omega arith), λ r. absurd (no (r .0))); wrong-points = λ w. refl; wrong-length = λ r w. absurd (no r) })
+      go false true e f =
+          let no : Right → ⊥ = λ r. let z : _≡_ {A = ℕ} 0 1 = cc (lists-tested .1 r) in omega arith in
+          rw (e, f)
+          (record {
+            exactly = (λ z. absurd (omega arith), λ r. absurd (no (r .1)));
+            wrong-points = λ w. absurd (w (points-tested n .0 e));
+            wrong-length = λ r w. refl;
+          })
+      go false false e f = rw (e, f) (not-refused (points-tested n .0 e, lists-tested .0 f) refl)
+
+  -- Nothing is refused exactly if all is right.
+  pub fit : first asked ≡ 0 → PointsRight n × Right
+  fit = judged .exactly .0
+
+  pub taken : PointsRight n × Right → first asked ≡ 0
+  taken = judged .exactly .1
 
 -- The batch is no longer than the buffer.
 pub batch-short : (n : ℕ) (held wanted : List ℕ) → n ≤ 1984 → MapOf n held → MapOf n wanted → length (batchOf held wanted) ≤ 8032
@@ -88,7 +108,7 @@ fewest n held wanted batch h w =
     let d = demand3 n held wanted h w in
     record {
       packets = packetsOf held wanted;
-      number = length-map (planOf held wanted) (packetFor wanted);
+      as-many = length-map (planOf held wanted) (packetFor wanted);
       back-to-back = sym (take-over (batchOf held wanted) batch);
       accepted = d .accepted;
       turns = d .turns;
@@ -97,31 +117,66 @@ fewest n held wanted batch h w =
     }
 
 -- The plan is in the lent list, and is the one that is chosen.
-pub chosen : (n : ℕ) (held wanted plan : List ℕ) → MapOf n held → MapOf n wanted
+pub chosen : (n : ℕ) (held wanted plan batch : List ℕ) → MapOf n held → MapOf n wanted
     → PlanChosen n held wanted (length (planOf held wanted)) (length (batchOf held wanted)) (over (planNumbers (planOf held wanted)) plan)
-chosen n held wanted plan h w =
+    (over (batchOf held wanted) batch)
+unfolding packetsOf batchOf
+chosen n held wanted plan batch h w =
     record {
       parts = planOf held wanted;
-      number = refl;
+      as-many = refl;
       numbers = rw (← length-numbers (planOf held wanted)) (sym (take-over (planNumbers (planOf held wanted)) plan));
       chosen = plan-chosen n held wanted h w;
       only = chosen-only n held wanted h w;
       total = sym (batch-cost n held wanted (h .long) (w .long));
       bound = batch-bound n held wanted h w;
+      sent = sym (take-over (batchOf held wanted) batch);
     }
+
+-- Equal maps have no packet to send.
+equal-none : (n : ℕ) (held wanted : List ℕ) → MapOf n held → held ≡ wanted → (length (planOf held wanted) ≡ 0) × (length (batchOf held wanted) ≡ 0)
+unfolding packetsOf batchOf joined
+equal-none n held wanted h e = rw (← e, plan-equal n held h) (refl, refl)
+
+-- What lies behind numbers that are written over the start of a list, and so behind their bytes.
+behind-over : (s l : List ℕ) → drop (length s) (over s l) ≡ drop (length s) l
+unfolding over
+behind-over s l = drop-at s _ _ refl
+
+bytes-behind : (k : ℕ) {a b : List ℕ} → bytes (words a) ≡ a → bytes (words b) ≡ b → drop (2 * k) (words a) ≡ drop (2 * k) (words b)
+    → drop (4 * k) a ≡ drop (4 * k) b
+bytes-behind k {a} {b} p q e =
+    let twice : 4 * k ≡ 2 * (2 * k) = omega arith in
+    rw twice (ap (drop (2 * (2 * k))) (sym p) ∙ sym (halves-drop 256 (2 * k) (words a)) ∙ ap bytes e ∙ halves-drop 256 (2 * k) (words b)
+    ∙ ap (drop (2 * (2 * k))) q)
 
 -- Refused.
 pub refused : (n : ℕ) (held wanted : List ℕ) (s : Sheets) {number : ℕ} → number ≡ first (planRefusals n held wanted s) → (number ≡ 0 → ⊥)
     → Planned n held wanted s (planOut number 0 0 s)
 unfolding planned
 refused n held wanted s {number} e h =
-    record { outcome = rw (← e, ne-eqb number 0 h); fewest = λ z. absurd (h z); plan = λ z. absurd (h z); room = λ z. absurd (h z) }
+    record {
+      outcome = rw (← e, ne-eqb number 0 h);
+      refusals = rw e (judged 2 3968 1985 n held wanted s);
+      fewest = λ z. absurd (h z);
+      plan = λ z. absurd (h z);
+      room = λ z. absurd (h z);
+      equal = λ z. absurd (h z);
+      plan-behind = refl;
+      batch-behind = refl;
+    }
 
 pub refused-bytes : (n : ℕ) (held wanted : List ℕ) (s : Sheets) {number : ℕ} → number ≡ first (bytePlanRefusals n held wanted s) → (number ≡ 0 → ⊥)
     → PlannedBytes n held wanted s (planOut number 0 0 s)
 unfolding plannedBytes
 refused-bytes n held wanted s {number} e h =
-    record { outcome = rw (← e, ne-eqb number 0 h); fewest = λ z. absurd (h z); plan = λ z. absurd (h z); room = λ z. absurd (h z) }
+    record {
+      outcome = rw (← e, ne-eqb number 0 h);
+      refusals = rw e (judged 4 7936 7940 n held wanted s);
+      numbers = λ z. absurd (h z);
+      plan-behind = refl;
+      batch-behind = refl;
+    }
 
 -- Planned.
 pub done : (n : ℕ) (held wanted : List ℕ) (s : Sheets) {plan room batch : List ℕ} {packets size : ℕ} → first (planRefusals n held wanted s) ≡ 0
@@ -131,35 +186,68 @@ unfolding planned
 done n held wanted s e h w r t =
     record {
       outcome = rw (e, t .packets-are, t .bytes-are, t .plan-is, t .batch-is, r);
+      refusals = not-refused (fit 2 3968 1985 n held wanted s e) refl;
       fewest = λ z. rw (t .packets-are, t .bytes-are, t .batch-is) (fewest n held wanted (s .batch) h w);
-      plan = λ z. rw (t .packets-are, t .bytes-are, t .plan-is) (chosen n held wanted (s .plan) h w);
+      plan = λ z. rw (t .packets-are, t .bytes-are, t .plan-is, t .batch-is) (chosen n held wanted (s .plan) (s .batch) h w);
       room = λ z. rw r (room-means n held wanted h w);
+      equal = λ z same. rw (t .packets-are, t .bytes-are) (equal-none n held wanted h same);
+      plan-behind = rw (t .packets-are, t .plan-is, ← length-numbers (planOf held wanted)) (behind-over (planNumbers (planOf held wanted)) (s .plan));
+      batch-behind = rw (t .bytes-are, t .batch-is) (behind-over (batchOf held wanted) (s .batch));
     }
 
 -- On bytes: the numbers that they hold are planned as above, and the bytes are those of the numbers.
 pub done-bytes : (n : ℕ) (held wanted : List ℕ) (s : Sheets) {plan room batch : List ℕ} {packets size : ℕ}
-    → first (bytePlanRefusals n held wanted s) ≡ 0 → bytes (words plan) ≡ plan → longBytes (longs room) ≡ room
+    → first (bytePlanRefusals n held wanted s) ≡ 0 → bytes (words plan) ≡ plan → bytes (words (s .plan)) ≡ s .plan → longBytes (longs room) ≡ room
     → Planned n (words held) (words wanted) (sheetsIn s) (planOut 0 packets size (sheets (words plan) (longs room) batch))
     → PlannedBytes n held wanted s (planOut 0 packets size (sheets plan room batch))
 unfolding plannedBytes
-done-bytes n held wanted s {plan} {room} {batch} {packets} {size} e p r t =
+done-bytes n held wanted s {plan} {room} {batch} {packets} e p p₀ r t =
     record {
       outcome = rw (e, ← t .outcome, p, r);
-      fewest = t .fewest;
-      plan = t .plan;
-      room = t .room;
+      refusals = not-refused (fit 4 7936 7940 n held wanted s e) refl;
+      numbers = λ z. t;
+      plan-behind = bytes-behind packets p p₀ (t .plan-behind);
+      batch-behind = t .batch-behind;
     }
 
 -- The numbers that bytes of the right lengths hold are of the right lengths.
-pub fit-words : {n : ℕ} {held wanted : List ℕ} {s : Sheets} → Fit n 4 7936 7940 held wanted s
-    → Fit n 2 3968 1985 (words held) (words wanted) (sheetsIn s)
-fit-words f =
-    record {
-      some = f .some;
-      few = f .few;
-      held-long = rw length-pairs (omega (arith, f .held-long));
-      wanted-long = rw length-pairs (omega (arith, f .wanted-long));
-      plan-long = rw length-pairs (omega (arith, f .plan-long));
-      room-long = rw (length-pairs, length-pairs) (omega (arith, f .room-long));
-      batch-long = f .batch-long;
-    }
+pub fit-words : {n : ℕ} {held wanted : List ℕ} {s : Sheets} → PointsRight n × BytesRight n held wanted s
+    → PointsRight n × NumbersRight n (words held) (words wanted) (sheetsIn s)
+fit-words (points, f) = (
+  points,
+  record {
+    held-long = rw length-pairs (omega (arith, f .held-long));
+    wanted-long = rw length-pairs (omega (arith, f .wanted-long));
+    plan-long = rw length-pairs (omega (arith, f .plan-long));
+    room-long = rw (length-pairs, length-pairs) (omega (arith, f .room-long));
+    batch-long = f .batch-long;
+  },
+)
+
+-- Numbers lent as their bytes: planning does there what it does on the numbers.
+fit-bytes : {n : ℕ} {held wanted : List ℕ} {s : Sheets} → PointsRight n × NumbersRight n held wanted s
+    → PointsRight n × BytesRight n (bytes held) (bytes wanted) (sheetBytes s)
+fit-bytes (points, f) = (
+  points,
+  record {
+    held-long = rw length-halves (omega (arith, f .held-long));
+    wanted-long = rw length-halves (omega (arith, f .wanted-long));
+    plan-long = rw length-halves (omega (arith, f .plan-long));
+    room-long = rw (length-halves, length-halves) (omega (arith, f .room-long));
+    batch-long = f .batch-long;
+  },
+)
+
+status-by : (n : ℕ) (held wanted : List ℕ) (s : Sheets) (number : ℕ) (b : Bool) → eqb number 0 ≡ b
+    → plannedBy number n held wanted s .status ≡ number
+status-by n held wanted s number true e = rw e (sym (eqb-true number 0 e))
+status-by n held wanted s number false e = rw e
+
+pub plan-bytes : (n : ℕ) (held wanted : List ℕ) (s : Sheets) → planned n held wanted s .status ≡ 0
+    → plannedBytes n (bytes held) (bytes wanted) (sheetBytes s) ≡ bytePlanOut (planned n held wanted s)
+unfolding planned plannedBytes
+plan-bytes n held wanted s e =
+    let number : ℕ = first (planRefusals n held wanted s) in
+    let silent : number ≡ 0 = sym (status-by n held wanted s number (eqb number 0) refl) ∙ e in
+    let none = taken 4 7936 7940 n (bytes held) (bytes wanted) (sheetBytes s) (fit-bytes (fit 2 3968 1985 n held wanted s silent)) in
+    rw (none, pairs-halves 256 held, pairs-halves 256 wanted, pairs-halves 256 (s .plan), longs-bytes (s .room))

@@ -16,7 +16,7 @@ use Rattle.opcode.specs.Options.{isRead, hasLength, optionsIn}
 use Rattle.opcode.specs.Commands.{commandOf}
 use Rattle.opcode.specs.Judgement.{judgement, pointsSizeWrong}
 use Rattle.opcode.specs.Allowed.{NeedsLength}
-use Rattle.opcode.proofs.Accepts.Tests.{told, first-silent, silent-first}
+use Rattle.wire.proofs.Tests.{told, first-silent, silent-first}
 use Rattle.opcode.proofs.Accepts.Passes.{passes-silent, silent-passes}
 use Rattle.opcode.proofs.Accepts.Varying.{points-passes}
 use Rattle.opcode.proofs.Accepts.Writes.{silent-length}

@@ -1,7 +1,9 @@
 -- Document 01, "Upload plan": the least bytes for what is left of a map. A packet of count points costs 6 + 4 × count bytes, count 1-126.
-use Prim.Native.Nat.{ℕ, zero, suc, _+_, min}
-use mathlib.Core.Bool.{Bool, not, cond, _&&_}
+use Prim.Native.Nat.{ℕ, zero, suc, _+_, _*_, _≤_, _<_, min}
+use mathlib.Core.Path.{_≡_}
+use mathlib.Core.Bool.{Bool, true, not, cond, _&&_}
 use mathlib.Core.List.{List, [], _∷_}
+use lib.ListN.{length, getD}
 use lib.Dec.{eqb, leb}
 
 -- For each point, whether held and wanted (two numbers a point) differ there.
@@ -37,3 +39,19 @@ unfoldable pub more : ℕ → List ℕ → ℕ
 more zero r = 0
 more (suc k) [] = 0
 more (suc k) (x ∷ r) = cond (leb x (4 + best k r)) 0 (suc (more k r))
+
+-- ---- The same in the words of the rules.
+
+-- The room's number at a point, and at the end.
+abbrev pub roomAt : List Bool → ℕ → ℕ
+roomAt ds i = getD (rooms ds) i 0
+
+-- At a point that differs, ds being the points behind it: a packet of count points costs 6 + 4 × count and what is left behind it. Of the counts
+-- from 1 to 126 within the map the room's number is the least, and this count is the smallest that attains it.
+pub record SmallestCount (ds : List Bool) (count : ℕ) : Type 0 where
+  pub some : 1 ≤ count
+  pub few : count ≤ 126
+  pub within : count ≤ length (true ∷ ds)
+  pub attained : roomAt (true ∷ ds) 0 ≡ 6 + 4 * count + roomAt (true ∷ ds) count
+  pub lower : (c : ℕ) → 1 ≤ c → c ≤ 126 → c ≤ length (true ∷ ds) → roomAt (true ∷ ds) 0 ≤ 6 + 4 * c + roomAt (true ∷ ds) c
+  pub smallest : (c : ℕ) → 1 ≤ c → c < count → roomAt (true ∷ ds) 0 < 6 + 4 * c + roomAt (true ∷ ds) c

@@ -6,7 +6,6 @@ use mathlib.Core.Bool.{true}
 use mathlib.Core.List.{List, [], _∷_}
 use lib.ListN.{length, getD}
 use Rattle.packet.specs.Points.{acceptedAt, mapAfter}
-use Rattle.upload.specs.Plan.{packetsOf, batchOf}
 
 -- The map that a list of packets leaves.
 unfoldable pub mapsAfter : ℕ → List (List ℕ) → List ℕ → List ℕ
@@ -18,9 +17,9 @@ abbrev pub Turns : ℕ → List ℕ → List ℕ → List (List ℕ) → Type 0
 Turns n held wanted ps = mapsAfter n ps held ≡ wanted
 
 -- "Its bytes are the sum of its packets' lengths."
-unfoldable pub bytesOf : List (List ℕ) → ℕ
-bytesOf [] = 0
-bytesOf (p ∷ ps) = length p + bytesOf ps
+unfoldable pub totalBytes : List (List ℕ) → ℕ
+totalBytes [] = 0
+totalBytes (p ∷ ps) = length p + totalBytes ps
 
 -- Every packet of a list is accepted.
 pub data AllAccepted (n : ℕ) : List (List ℕ) → Type 0 where
@@ -31,11 +30,3 @@ pub data AllAccepted (n : ℕ) : List (List ℕ) → Type 0 where
 pub record MapOf (n : ℕ) (map : List ℕ) : Type 0 where
   pub long : length map ≡ 2 * n
   pub words : (k : ℕ) → getD map k 0 < 65536
-
--- Demand 3: "the batch's packets are such a list, all accepted, and every such list has at least as many bytes as the batch's length
--- answered. This is a single claim about whole lists and not one for each packet."
-pub record Demand3 (n : ℕ) (held wanted : List ℕ) : Type 0 where
-  pub turns : Turns n held wanted (packetsOf held wanted)
-  pub accepted : AllAccepted n (packetsOf held wanted)
-  pub bytes : length (batchOf held wanted) ≡ bytesOf (packetsOf held wanted)
-  pub fewest : (ps : List (List ℕ)) → Turns n held wanted ps → length (batchOf held wanted) ≤ bytesOf ps

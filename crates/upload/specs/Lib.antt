@@ -4,3 +4,4 @@ pub mod Plan
 pub mod Judge
 pub mod Parts
 pub mod Planning
+pub mod Examples

@@ -17,9 +17,10 @@ pub record Fits (n : ℕ) (p : Part) : Type 0 where
   pub within : p .start + p .count ≤ n
 
 -- Parts of a map of n points, rising and not overlapping, from point i on.
-pub data Rising (n : ℕ) : ℕ → List Part → Type 0 where
-  none : {i : ℕ} → Rising n i []
-  next : {i : ℕ} {p : Part} {ps : List Part} → i ≤ p .start → Fits n p → Rising n (p .start + p .count) ps → Rising n i (p ∷ ps)
+pub data InOrder (n : ℕ) : ℕ → List Part → Type 0 where
+  none : {i : ℕ} → InOrder n i []
+  next : {i : ℕ} {p : Part} {ps : List Part} → i ≤ p .start → Fits n p → InOrder n (p .start + p .count) ps
+      → InOrder n i (p ∷ ps)
 
 unfoldable pub counts : List Part → List ℕ
 counts [] = []
@@ -31,13 +32,14 @@ pub data Less : List ℕ → List ℕ → Type 0 where
   here : {a b : ℕ} {as′ bs : List ℕ} → a < b → Less (a ∷ as′) (b ∷ bs)
   later : {a : ℕ} {as′ bs : List ℕ} → Less as′ bs → Less (a ∷ as′) (a ∷ bs)
 
--- A rising list of parts that turns held into wanted.
+-- A list of parts, in order, that turns held into wanted.
 pub record Uploads (n : ℕ) (held wanted : List ℕ) (ps : List Part) : Type 0 where
-  pub rising : Rising n 0 ps
+  pub in-order : InOrder n 0 ps
   pub turns : Turns n held wanted (map (packetFor wanted) ps)
 
 -- "Among the cheapest such lists .. take the one whose first count is smallest, then the second, and so on."
 pub record Chosen (n : ℕ) (held wanted : List ℕ) (ps : List Part) : Type 0 where
   pub uploads : Uploads n held wanted ps
   pub cheapest : (qs : List Part) → Uploads n held wanted qs → cost ps ≤ cost qs
-  pub earliest : (qs : List Part) → Uploads n held wanted qs → cost qs ≡ cost ps → (counts ps ≡ counts qs) ⊎ Less (counts ps) (counts qs)
+  pub earliest : (qs : List Part) → Uploads n held wanted qs → cost qs ≡ cost ps
+      → (counts ps ≡ counts qs) ⊎ Less (counts ps) (counts qs)

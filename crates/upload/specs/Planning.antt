@@ -4,16 +4,17 @@
 -- N the least bytes for the points from i on, and 0 from N on."
 use Prim.Native.Nat.{ℕ, _+_, _-_, _*_, _/_, _≤_, _<_}
 use mathlib.Core.Path.{_≡_}
+use mathlib.Core.Logic.{_↔_}
 use mathlib.Core.Bool.{Bool, cond, not, _&&_, _||_}
-use mathlib.Core.List.{List, [], _∷_, _++_}
+use mathlib.Core.List.{List, [], _∷_, _++_, map}
 use lib.ListN.{length, take, drop, getD, replicate}
 use lib.Dec.{eqb, leb, ltb}
 use Rattle.wire.specs.First.{first}
 use Rattle.wire.specs.Buffers.{over}
 use Rattle.wire.specs.Tables.{words, bytes, longs, longBytes}
 use Rattle.upload.specs.Cost.{differs, rooms}
-use Rattle.upload.specs.Plan.{Part, planOf, cost, planNumbers, batchOf, joined}
-use Rattle.upload.specs.Judge.{Turns, bytesOf, AllAccepted}
+use Rattle.upload.specs.Plan.{Part, planOf, cost, planNumbers, packetFor, batchOf, joined}
+use Rattle.upload.specs.Judge.{Turns, totalBytes, AllAccepted}
 use Rattle.upload.specs.Parts.{Chosen}
 
 -- The lists that planning writes.
@@ -29,18 +30,23 @@ sheets plan room batch = record { plan = plan; room = room; batch = batch }
 abbrev pub pointsWrong : ℕ → Bool
 pointsWrong n = eqb n 0 || ltb 1984 n
 
--- 1: lengths, of tables of numbers.
-abbrev pub lengthsWrong : ℕ → List ℕ → List ℕ → Sheets → Bool
-lengthsWrong n held wanted s =
+-- 1: lengths, for so many numbers (or bytes) a point, in the plan and in the room.
+abbrev pub lengthsWrong : ℕ → ℕ → ℕ → ℕ → List ℕ → List ℕ → Sheets → Bool
+lengthsWrong each plans places n held wanted s =
     not
-    (eqb (length held) (2 * n)
-    && eqb (length wanted) (2 * n)
-    && eqb (length (s .plan)) 3968
-    && eqb (length (s .room)) 1985
+    (eqb (length held) (each * n)
+    && eqb (length wanted) (each * n)
+    && eqb (length (s .plan)) plans
+    && eqb (length (s .room)) places
     && leb 8032 (length (s .batch)))
 
+abbrev pub refusalsWith : ℕ → ℕ → ℕ → ℕ → List ℕ → List ℕ → Sheets → List (ℕ × Bool)
+refusalsWith each plans places n held wanted s =
+    (10, pointsWrong n) ∷ (1, lengthsWrong each plans places n held wanted s) ∷ []
+
+-- Maps and plan of 16-bit numbers, room of 32-bit ones.
 abbrev pub planRefusals : ℕ → List ℕ → List ℕ → Sheets → List (ℕ × Bool)
-planRefusals n held wanted s = (10, pointsWrong n) ∷ (1, lengthsWrong n held wanted s) ∷ []
+planRefusals = refusalsWith 2 3968 1985
 
 -- "The answer gives the number of packets and the batch's length, both 0 on a refusal."
 pub record PlanOut : Type 0 where
@@ -62,8 +68,8 @@ pub record LeastFrom (n : ℕ) (held wanted : List ℕ) (i number : ℕ) : Type 
   pub batch : number ≡ length (batchOf (drop (2 * i) held) (drop (2 * i) wanted))
   pub packets : List (List ℕ)
   pub turns : Turns (n - i) (drop (2 * i) held) (drop (2 * i) wanted) packets
-  pub total : bytesOf packets ≡ number
-  pub least : (ps : List (List ℕ)) → Turns (n - i) (drop (2 * i) held) (drop (2 * i) wanted) ps → number ≤ bytesOf ps
+  pub total : totalBytes packets ≡ number
+  pub least : (ps : List (List ℕ)) → Turns (n - i) (drop (2 * i) held) (drop (2 * i) wanted) ps → number ≤ totalBytes ps
 
 -- "working room holds at each index i below N the least bytes for the points from i on, and 0 from N on." It holds 1,985 numbers.
 pub record RoomMeans (n : ℕ) (held wanted room : List ℕ) : Type 0 where
@@ -75,56 +81,86 @@ abbrev pub plannedBy : ℕ → ℕ → List ℕ → List ℕ → Sheets → Plan
 plannedBy number n held wanted s =
     cond (eqb number 0)
     (planOut 0 (length (planOf held wanted)) (length (batchOf held wanted))
-    (sheets (over (planNumbers (planOf held wanted)) (s .plan)) (roomOf n held wanted) (over (batchOf held wanted) (s .batch))))
+    (sheets (over (planNumbers (planOf held wanted)) (s .plan)) (roomOf n held wanted)
+    (over (batchOf held wanted) (s .batch))))
     (planOut number 0 0 s)
 
 unfoldable pub planned : ℕ → List ℕ → List ℕ → Sheets → PlanOut
 planned n held wanted s = plannedBy (first (planRefusals n held wanted s)) n held wanted s
 
+-- What planning takes and which refusal it gives, said a second time and apart from the tests above.
+
+-- The numbers of points that a map may have.
+pub record PointsRight (n : ℕ) : Type 0 where
+  pub some : 1 ≤ n
+  pub few : n ≤ 1984
+
+-- The lengths that planning asks for: so many numbers (or bytes) a point, in the plan and in the room, and a batch that
+-- holds any upload.
+pub record ListsRight (each plans places n : ℕ) (held wanted : List ℕ) (s : Sheets) : Type 0 where
+  pub held-long : length held ≡ each * n
+  pub wanted-long : length wanted ≡ each * n
+  pub plan-long : length (s .plan) ≡ plans
+  pub room-long : length (s .room) ≡ places
+  pub batch-long : 8032 ≤ length (s .batch)
+
+-- Maps and plan of 16-bit numbers, room of 32-bit ones.
+abbrev pub NumbersRight : ℕ → List ℕ → List ℕ → Sheets → Type 0
+NumbersRight = ListsRight 2 3968 1985
+
+-- The same as bytes.
+abbrev pub BytesRight : ℕ → List ℕ → List ℕ → Sheets → Type 0
+BytesRight = ListsRight 4 7936 7940
+
+-- Nothing is refused exactly if points and lists are right; a wrong number of points is 10, whatever the lists; else a
+-- wrong length is 1; and a refusal leaves all that was lent.
+pub record PlanRefusals (n : ℕ) (Right : Type 0) (before : Sheets) (o : PlanOut) : Type 0 where
+  pub exactly : (o .status ≡ 0) ↔ (PointsRight n × Right)
+  pub wrong-points : (PointsRight n → ⊥) → o ≡ planOut 10 0 0 before
+  pub wrong-length : PointsRight n → (Right → ⊥) → o ≡ planOut 1 0 0 before
+
 -- Demand 3 of an answer: the first so many bytes of the batch are packets back to back, as many as answered, that turn held into wanted, all
 -- accepted, and every list of packets that turns held into wanted has at least as many bytes.
-pub record Fewest (n : ℕ) (held wanted : List ℕ) (many count : ℕ) (batch : List ℕ) : Type 0 where
+pub record Fewest (n : ℕ) (held wanted : List ℕ) (many size : ℕ) (batch : List ℕ) : Type 0 where
   pub packets : List (List ℕ)
   -- "The answer gives the number of packets".
-  pub number : length packets ≡ many
-  pub back-to-back : joined packets ≡ take count batch
+  pub as-many : length packets ≡ many
+  pub back-to-back : joined packets ≡ take size batch
   pub accepted : AllAccepted n packets
   pub turns : Turns n held wanted packets
-  pub total : bytesOf packets ≡ count
-  pub least : (ps : List (List ℕ)) → Turns n held wanted ps → count ≤ bytesOf ps
+  pub total : totalBytes packets ≡ size
+  pub least : (ps : List (List ℕ)) → Turns n held wanted ps → size ≤ totalBytes ps
 
 -- The lent list begins with the plan: a list of (start, count), as many as answered, that document 01 chooses, and it chooses no other.
-pub record PlanChosen (n : ℕ) (held wanted : List ℕ) (many count : ℕ) (plan : List ℕ) : Type 0 where
+pub record PlanChosen (n : ℕ) (held wanted : List ℕ) (many size : ℕ) (plan batch : List ℕ) : Type 0 where
   pub parts : List Part
   -- "The answer gives the number of packets".
-  pub number : length parts ≡ many
+  pub as-many : length parts ≡ many
   pub numbers : planNumbers parts ≡ take (2 * many) plan
   -- "Among the cheapest such lists that turn held into wanted take the one whose first count is smallest, then the second, and so on."
   pub chosen : Chosen n held wanted parts
   pub only : (qs : List Part) → Chosen n held wanted qs → qs ≡ parts
   -- "Its bytes are the sum of 6 + 4 × count."
-  pub total : cost parts ≡ count
+  pub total : cost parts ≡ size
   -- "The bytes never exceed 4N + 6 × (N / 126 rounded up): 8,032 for a full map."
-  pub bound : count ≤ 4 * n + 6 * ((n + 125) / 126)
+  pub bound : size ≤ 4 * n + 6 * ((n + 125) / 126)
+  -- The batch is these parts' packets back to back.
+  pub sent : joined (map (packetFor wanted) parts) ≡ take size batch
 
--- The promise of planning: its answer and every lent list; and unless it is refused, demand 3 of the byte count answered, and what the lent plan and
--- room hold.
+-- The promise of planning: its answer and every lent list, and which refusal it gives; and unless it is refused,
+-- demand 3 of the byte count answered, what the lent plan and room hold, and that equal maps give no packet.
 pub record Planned (n : ℕ) (held wanted : List ℕ) (before : Sheets) (o : PlanOut) : Type 0 where
   pub outcome : o ≡ planned n held wanted before
+  pub refusals : PlanRefusals n (NumbersRight n held wanted before) before o
   pub fewest : o .status ≡ 0 → Fewest n held wanted (o .packets) (o .bytes) (o .left .batch)
-  pub plan : o .status ≡ 0 → PlanChosen n held wanted (o .packets) (o .bytes) (o .left .plan)
+  pub plan : o .status ≡ 0 → PlanChosen n held wanted (o .packets) (o .bytes) (o .left .plan) (o .left .batch)
   pub room : o .status ≡ 0 → RoomMeans n held wanted (o .left .room)
+  pub equal : o .status ≡ 0 → held ≡ wanted → (o .packets ≡ 0) × (o .bytes ≡ 0)
+  -- Plan and batch beyond their used parts are as they were.
+  pub plan-behind : drop (2 * o .packets) (o .left .plan) ≡ drop (2 * o .packets) (before .plan)
+  pub batch-behind : drop (o .bytes) (o .left .batch) ≡ drop (o .bytes) (before .batch)
 
 -- ---- Lists lent as bytes: "the answers are those of the entries on wider numbers".
-
-abbrev pub byteLengthsWrong : ℕ → List ℕ → List ℕ → Sheets → Bool
-byteLengthsWrong n held wanted s =
-    not
-    (eqb (length held) (4 * n)
-    && eqb (length wanted) (4 * n)
-    && eqb (length (s .plan)) 7936
-    && eqb (length (s .room)) 7940
-    && leb 8032 (length (s .batch)))
 
 abbrev pub sheetsIn : Sheets → Sheets
 sheetsIn s = sheets (words (s .plan)) (longs (s .room)) (s .batch)
@@ -136,15 +172,22 @@ abbrev pub bytePlanOut : PlanOut → PlanOut
 bytePlanOut o = planOut (o .status) (o .packets) (o .bytes) (sheetBytes (o .left))
 
 abbrev pub bytePlanRefusals : ℕ → List ℕ → List ℕ → Sheets → List (ℕ × Bool)
-bytePlanRefusals n held wanted s = (10, pointsWrong n) ∷ (1, byteLengthsWrong n held wanted s) ∷ []
+bytePlanRefusals = refusalsWith 4 7936 7940
 
 unfoldable pub plannedBytes : ℕ → List ℕ → List ℕ → Sheets → PlanOut
 plannedBytes n held wanted s =
-    cond (eqb (first (bytePlanRefusals n held wanted s)) 0) (bytePlanOut (planned n (words held) (words wanted) (sheetsIn s)))
+    cond (eqb (first (bytePlanRefusals n held wanted s)) 0)
+    (bytePlanOut (planned n (words held) (words wanted) (sheetsIn s)))
     (planOut (first (bytePlanRefusals n held wanted s)) 0 0 s)
 
+-- The promise of planning on bytes: its answer and every lent list, and which refusal it gives; and unless it is
+-- refused, what is left holds what planning on the numbers in these bytes gives, with all that it promises.
 pub record PlannedBytes (n : ℕ) (held wanted : List ℕ) (before : Sheets) (o : PlanOut) : Type 0 where
   pub outcome : o ≡ plannedBytes n held wanted before
-  pub fewest : o .status ≡ 0 → Fewest n (words held) (words wanted) (o .packets) (o .bytes) (o .left .batch)
-  pub plan : o .status ≡ 0 → PlanChosen n (words held) (words wanted) (o .packets) (o .bytes) (words (o .left .plan))
-  pub room : o .status ≡ 0 → RoomMeans n (words held) (words wanted) (longs (o .left .room))
+  pub refusals : PlanRefusals n (BytesRight n held wanted before) before o
+  pub numbers : o .status ≡ 0
+      → Planned n (words held) (words wanted) (sheetsIn before)
+      (planOut (o .status) (o .packets) (o .bytes) (sheetsIn (o .left)))
+  -- A part of the plan is four bytes.
+  pub plan-behind : drop (4 * o .packets) (o .left .plan) ≡ drop (4 * o .packets) (before .plan)
+  pub batch-behind : drop (o .bytes) (o .left .batch) ≡ drop (o .bytes) (before .batch)

@@ -3,13 +3,13 @@ use packet::Reading;
 use reply::ReplyReading;
 ghost use mathlib.Core.Path.{_≡_};
 ghost use mathlib.Core.Bool.{not};
+ghost use Prim.Native.Nat.{_<_};
 ghost use lib.Dec.{eqb};
-ghost use Rattle.packet.specs.Reading.{answer, reading};
-ghost use Rattle.packet.specs.Making.{made};
-ghost use Rattle.reply.specs.Reading.{«answer» as replyAnswer, replyReading};
-ghost use Rattle.controller8.specs.Bytes.{lent, stepBytes, lentReset, resetBytes};
+ghost use Rattle.packet.specs.Reading.{answer};
+ghost use Rattle.reply.specs.Reading.{replyAnswer};
+ghost use Rattle.controller8.specs.Bytes.{lent, lentReset, ResetsBytes};
 ghost use Rattle.upload.specs.Planning.{sheets};
-ghost use Rattle.vermolgas.specs.Packed.{PackedPlan, packedReading, packedMade, packedReply, packedOut, packedStep};
+ghost use Rattle.vermolgas.specs.Packed.{PackedRead, PackedMake, PackedReplyRead, PackedHandled, PackedPlan};
 
 // Puts the block and all tables as they are after reset. The status is 0, or 1 for a wrong length.
 #[no_mangle]
@@ -19,8 +19,8 @@ pub extern "C" fn vermolgas_reset(
     live: &mut [u8],
     gains: &mut [u8],
 ) -> u64
-    ensures { λ r. ⌜ lentReset r (lent (now (block .exit)) (now (staged .exit)) (now (live .exit)) (now (gains .exit)))
-        ≡ resetBytes (lent (now (block .entry)) (now (staged .entry)) (now (live .entry)) (now (gains .entry))) ⌝ }
+    ensures { λ r. ⌜ ResetsBytes (lent (now (block .entry)) (now (staged .entry)) (now (live .entry)) (now (gains .entry)))
+        (lentReset r (lent (now (block .exit)) (now (staged .exit)) (now (live .exit)) (now (gains .exit)))) ⌝ }
 {
     controller8::reset(block, staged, live, gains) as u64
 }
@@ -35,8 +35,9 @@ pub extern "C" fn vermolgas_packet(
     gains: &mut [u8],
     reply: &mut [u8],
 ) -> u64
-    ensures { λ r. ⌜ packedOut r (lent (now (block .exit)) (now (staged .exit)) (now (live .exit)) (now (gains .exit))) (now (reply .exit))
-        ≡ packedStep (stepBytes (now (packet .entry)) (lent (now (block .entry)) (now (staged .entry)) (now (live .entry)) (now (gains .entry))) (now (reply .entry))) ⌝ }
+    ensures { λ r. ⌜ PackedHandled (now (packet .entry))
+        (lent (now (block .entry)) (now (staged .entry)) (now (live .entry)) (now (gains .entry))) (now (reply .entry))
+        r (lent (now (block .exit)) (now (staged .exit)) (now (live .exit)) (now (gains .exit))) (now (reply .exit)) ⌝ }
 {
     let o = controller8::handle(packet, block, staged, live, gains, reply);
     o.status as u64 + 256 * o.size as u64
@@ -45,7 +46,7 @@ pub extern "C" fn vermolgas_packet(
 // Reads a packet.
 #[no_mangle]
 pub extern "C" fn vermolgas_read(packet: &[u8]) -> u64
-    ensures { λ r. ⌜ r ≡ packedReading (reading (now (packet .entry))) ⌝ }
+    ensures { λ r. ⌜ PackedRead (now (packet .entry)) r ⌝ }
 {
     let r = packet::read(packet);
     let Reading::Command {
@@ -62,7 +63,7 @@ pub extern "C" fn vermolgas_read(packet: &[u8]) -> u64
 
 // The refusal of a reading that is one.
 fn read_refusal(r: Reading) -> u64
-    ensures { λ n. ⌜ n ≡ answer r .number ⌝ }
+    ensures { λ n. ⌜ (n ≡ answer r .number) × (n < 256) ⌝ }
 {
     match r {
         Reading::Refused(why) => why.number as u64,
@@ -78,8 +79,7 @@ fn read_refusal(r: Reading) -> u64
 // Makes a packet in the buffer; of the options bits 3 to 7 count.
 #[no_mangle]
 pub extern "C" fn vermolgas_make(opcode: u16, options: u8, data: &[u8], buffer: &mut [u8]) -> u64
-    ensures { λ r. ⌜ (r ≡ packedMade (made opcode options (now («data» .entry)) (now (buffer .entry))))
-        × (now (buffer .exit) ≡ made opcode options (now («data» .entry)) (now (buffer .entry)) .buffer) ⌝ }
+    ensures { λ r. ⌜ PackedMake opcode options (now («data» .entry)) (now (buffer .entry)) r (now (buffer .exit)) ⌝ }
 {
     let m = packet::make(opcode, options, data, buffer);
     m.status as u64 + 256 * m.size as u64
@@ -88,10 +88,15 @@ pub extern "C" fn vermolgas_make(opcode: u16, options: u8, data: &[u8], buffer: 
 // Reads a reply; a checksum is expected unless the second argument is 0.
 #[no_mangle]
 pub extern "C" fn vermolgas_read_reply(reply: &[u8], checksum: u8) -> u64
-    ensures { λ r. ⌜ r ≡ packedReply (replyReading (now (reply .entry)) (not (eqb checksum 0))) ⌝ }
+    ensures { λ r. ⌜ PackedReplyRead (now (reply .entry)) (not (eqb checksum 0)) r ⌝ }
 {
     let r = reply::read_reply(reply, checksum != 0);
-    let ReplyReading::Reply { status, size } = r else {
+    let ReplyReading::Reply {
+        status,
+        at: _,
+        size,
+    } = r
+    else {
         return reply_refusal(r);
     };
     256 * status as u64 + 65536 * size as u64
@@ -99,11 +104,15 @@ pub extern "C" fn vermolgas_read_reply(reply: &[u8], checksum: u8) -> u64
 
 // The refusal of a reply's reading that is one.
 fn reply_refusal(r: ReplyReading) -> u64
-    ensures { λ n. ⌜ n ≡ replyAnswer r .number ⌝ }
+    ensures { λ n. ⌜ (n ≡ replyAnswer r .number) × (n < 256) ⌝ }
 {
     match r {
         ReplyReading::Refused(why) => why.number as u64,
-        ReplyReading::Reply { status: _, size: _ } => 0,
+        ReplyReading::Reply {
+            status: _,
+            at: _,
+            size: _,
+        } => 0,
     }
 }
 

@@ -41,7 +41,7 @@ use denote.Triple.Walked.{says, needs, Stays, stay-none, walkOf, goes-none, Walk
 use denote.Exit.{yes}
 use denote.Signature.{namedLft}
 use denote.Signature.Struct.{inStruct, makes}
-use Rattle.batch.specs.Writing.{headOf}
+use Rattle.batch.specs.Internal.{headOf}
 use Rattle.batch.specs.declared.Batch.{Batch}
 use Rattle.batch.proofs.Batch as T
 use Rattle.batch.proofs.Batch.Laws as T′

@@ -13,7 +13,7 @@ use Rattle.bench.proofs.present.Tie as tie
 inside : (c : tie.After-known-told) → c .before .r .given .0 .1 .1 .0 + c .before .r .given .0 .1 .1 .1 .0 ≤ length (c .before .before .before .before .before .before .before .before .args .bytes .now)
 inside c =
     let p = c .before .before .before .before .before .before .before .before .args .bytes .now in
-    let found = rw (c .before .r .given .1) at (c .before .before .before .read .ensures) in
+    let found = rw (c .before .r .given .1) at (c .before .before .before .read .ensures .outcome) in
     subst (λ (a : Answer). Within a p) (sym found) (reading-within p) .inside
 
 slice-aggregate-write-all : tie.Need-slice-aggregate-write-all

@@ -20,7 +20,7 @@ command : (c : tie.After-known-told)
       size = c .before .r .given .0 .1 .1 .1 .0;
     }
     ≡ reading (c .before .before .before .before .before .before .args .packet .now)
-command c = rw (c .before .r .given .1) at (c .before .before .before .read .ensures)
+command c = rw (c .before .r .given .1) at (c .before .before .before .read .ensures .outcome)
 
 within : (c : tie.After-known-told) → (c .before .r .given .0 .1 .1 .0 ≤ 5) × (c .before .r .given .0 .1 .1 .1 .0 ≤ 512)
     × (c .before .r .given .0 .1 .1 .0 + c .before .r .given .0 .1 .1 .1 .0 ≤ length (c .before .before .before .before .before .before .args .packet .now))
@@ -41,7 +41,7 @@ enum-told c = search needs
 returns : tie.Need-returns
 returns c =
     let told = c .enum-told .given .1 in
-    rw told (refusal-stands _ _ _ (rw told at (c .before .before .read .ensures)))
+    rw told (refusal-stands _ _ _ (rw told at (c .before .before .read .ensures .outcome)))
 
 cast-runs-past : tie.Need-cast-runs-past
 cast-runs-past c = search needs

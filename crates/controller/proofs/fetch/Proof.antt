@@ -1,8 +1,10 @@
 -- Each arm is a part of the block. The smooth table's counts are at most 5, and any other command's settings lie in the block.
 use Prim.Native.Nat.{ℕ, _*_, _≤_, _<_}
+use mathlib.Core.Path.{ap}
 use native.Mathlib.Omega.{arith}
 use borrow.Author.Tests.{ne-eqb}
 use lib.ListN.{getD}
+use Rattle.opcode.specs.declared.Row.{Row}
 use Rattle.controller.specs.Commands.{blockBack, readSmooth}
 use Rattle.controller.proofs.Bounds.{counts}
 use Rattle.controller.proofs.Sizes.{back-small, place-within}
@@ -50,7 +52,7 @@ fetch-part-requires-2 c κs =
     let args = at-start .args in
     let bytes : (k : ℕ) → getD (args .«data» .now) k 0 < 256 = λ k. known .shared-slice-known .given k .fits in
     let room = place-within (args .opcode) (args .options) (args .«data» .now) bytes (at-start .pre .4) in
-    omega (arith, room, back-small (args .opcode), at-row .row-at .ensures .back)
+    omega (arith, room, back-small (args .opcode), ap (λ (r : Row). r .back) (at-row .row-at .ensures))
 
 same-length : tie.Need-same-length
 same-length c = search needs
@@ -78,7 +80,7 @@ returns-3 c =
     let at-part = c .before .before in
     let at-row = at-part .before .before .before in
     let rest = at-row .before .match .rest in
-    rw (ne-eqb _ _ (rest .0 .1), ne-eqb _ _ (rest .1), ← at-part .before .place-of .ensures .0, ← at-row .row-at .ensures .back) (at-part .fetch-part2 .ensures)
+    rw (ne-eqb _ _ (rest .0 .1), ne-eqb _ _ (rest .1), ← at-part .before .place-of .ensures .0, ← ap (λ (r : Row). r .back) (at-row .row-at .ensures)) (at-part .fetch-part2 .ensures)
 
 pub fetch-spec : {M : Type 1} → statement M
 fetch-spec =

@@ -1,8 +1,10 @@
 -- Each arm is its command's definition; what any other command stores lies among the settings, and its data holds it.
 use Prim.Native.Nat.{ℕ, _<_}
+use mathlib.Core.Path.{ap}
 use native.Mathlib.Omega.{arith}
 use borrow.Author.Tests.{ne-eqb}
 use lib.ListN.{getD}
+use Rattle.opcode.specs.declared.Row.{Row}
 use Rattle.controller.specs.Commands.{blockAfter, writeSmooth}
 use Rattle.controller.proofs.Bounds.{write-data}
 use Rattle.controller.proofs.Sizes.{shape-size, smooth-size, fixed-rest, place-within, write-whole}
@@ -42,12 +44,14 @@ copy-requires-2 c κs =
     let at-start = known .before .before in
     let args = at-start .args in
     let pre = at-start .pre in
-    let row = at-row .row-at .ensures in
+    let row = at-row .row-at in
+    let read = ap (λ (r : Row). r .read) (row .ensures) in
+    let back = ap (λ (r : Row). r .back) (row .ensures) in
     let bytes : (k : ℕ) → getD (args .«data» .now) k 0 < 256 = λ k. known .shared-slice-known .given k .fits in
     let room = place-within (args .opcode) (args .options) (args .«data» .now) bytes (pre .2) in
     let mark = fixed-rest (args .opcode) (args .options) (args .«data» .now) (pre .2) (rest .0 .0 .0 .0 .1) (rest .0 .0 .0 .1) (rest .0 .0 .1) (rest .1) in
     let whole = write-whole (args .opcode) (args .options) (args .«data» .now) bytes (pre .2) (pre .1) mark in
-    (omega (arith, room, row .back), omega (arith, whole, row .back, row .read))
+    (omega (arith, room, back), omega (arith, whole, back, read))
 
 returns : tie.Need-returns
 unfolding blockAfter
@@ -95,8 +99,8 @@ returns-6 c =
       ne-eqb _ _ (rest .0 .1),
       ne-eqb _ _ (rest .1),
       ← at-copy .before .place-of .ensures .0,
-      ← row .read,
-      ← row .back,
+      ← ap (λ (r : Row). r .read) row,
+      ← ap (λ (r : Row). r .back) row,
     ) (at-copy .copy2 .ensures)
 
 pub store-spec : {M : Type 1} → statement M

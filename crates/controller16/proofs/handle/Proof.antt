@@ -1,6 +1,7 @@
 -- A stopped packet is refusal 1; any other is decided.
 use mathlib.Core.Path.{sym, _∙_}
 use Rattle.controller.proofs.Steps.{step-stopped}
+use Rattle.controller.proofs.Handled.{handled}
 use borrow.Author.Needs.{needs}
 use Rattle.controller16.proofs.handle.Statement.{statement}
 use Rattle.controller16.proofs.handle.Tie as tie
@@ -24,7 +25,9 @@ same-length-5 : tie.Need-same-length-5
 same-length-5 c = search needs
 
 returns : tie.Need-returns
-returns c = sym (step-stopped _ _ _ (sym (c .before .stopped .ensures) ∙ c .if1 .taken))
+returns c =
+    let tested = c .before in
+    handled _ (λ k. tested .before .before .before .before .before .before .before .before .before .before .before .shared-slice-known .given k .fits) _ _ (sym (step-stopped _ _ _ (sym (tested .stopped .ensures) ∙ c .if1 .taken)))
 
 decided-requires : tie.Need-decided-requires
 decided-requires c κs = sym (c .before .before .before .before .before .before .stopped .ensures) ∙ c .before .before .before .before .before .if1 .left
@@ -45,7 +48,10 @@ same-length-10 : tie.Need-same-length-10
 same-length-10 c = search needs
 
 returns-2 : tie.Need-returns-2
-returns-2 c = search needs
+returns-2 c =
+    let done = c .before .before .before .before .before .before .before .before .before .before in
+    let tested = done .before .before .before .before .before .before .before in
+    handled _ (λ k. tested .before .before .before .before .before .before .before .before .before .before .before .shared-slice-known .given k .fits) _ _ (done .decided .ensures)
 
 pub handle-spec : {M : Type 1} → statement M
 handle-spec =

@@ -3,7 +3,8 @@ use mathlib.Core.Path.{_≡_, sym, _∙_}
 use mathlib.Core.Bool.{true}
 use borrow.Author.Tests.{not-true, not-false}
 use Rattle.controller.specs.State.{State, state, lengthsRight, reset}
-use Rattle.controller16.proofs.Lent.{long, map-reset, gains-reset}
+use Rattle.controller.proofs.Demands.{state-lent, resets}
+use Rattle.controller16.proofs.Lent.{map-reset, gains-reset}
 use borrow.Author.Needs.{needs}
 use Rattle.controller16.proofs.reset.Statement.{statement}
 use Rattle.controller16.proofs.reset.Tie as tie
@@ -29,10 +30,11 @@ same-length-4 c = search needs
 
 returns : tie.Need-returns
 unfolding reset
-returns c = rw (← c .before .lengths-right .ensures, not-true (c .before .lengths-right .result) (c .if1 .taken))
+returns c =
+    resets _ (rw (← c .before .lengths-right .ensures, not-true (c .before .lengths-right .result) (c .if1 .taken)))
 
 reset-block-requires : tie.Need-reset-block-requires
-reset-block-requires c κs = long (held (c .before .before .before .before .before .before .before .before .before .before .before)) (sym (c .before .before .lengths-right .ensures) ∙ not-false _ (c .before .if1 .left)) .block
+reset-block-requires c κs = state-lent (held (c .before .before .before .before .before .before .before .before .before .before .before)) .0 (sym (c .before .before .lengths-right .ensures) ∙ not-false _ (c .before .if1 .left)) .block
 
 fill-words-requires : tie.Need-fill-words-requires
 fill-words-requires c κs = search needs
@@ -66,14 +68,15 @@ returns-2 c =
     let at-lengths = at-test .before in
     let s = held (at-lengths .before .before .before .before .before .before .before .before .before) in
     let lengths : lengthsRight s ≡ true = sym (at-lengths .lengths-right .ensures) ∙ not-false _ (at-test .if1 .left) in
-    let right = long s lengths in
-    rw (
+    let right = state-lent s .0 lengths in
+    resets s
+    (rw (
       lengths,
-      at-block .reset-block .ensures,
+      at-block .reset-block .ensures .0,
       at-staged .fill-words .ensures ∙ map-reset (s .staged) (right .staged),
       at-live .fill-words2 .ensures ∙ map-reset (s .live) (right .live),
       at-gains .fill-words3 .ensures ∙ gains-reset (s .gains) (right .gains),
-    )
+    ))
 
 pub reset-spec : {M : Type 1} → statement M
 reset-spec =

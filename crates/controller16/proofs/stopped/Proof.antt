@@ -2,7 +2,7 @@
 use mathlib.Core.Path.{sym, _∙_}
 use borrow.Author.Tests.{not-true, not-false, lt-leb, le-leb}
 use Rattle.controller.specs.State.{State, state, stopped}
-use Rattle.controller16.proofs.Lent.{long}
+use Rattle.controller.proofs.Demands.{state-lent}
 use borrow.Author.Needs.{needs}
 use Rattle.controller16.proofs.stopped.Statement.{statement}
 use Rattle.controller16.proofs.stopped.Tie as tie
@@ -23,11 +23,11 @@ unfolding stopped
 returns-2 c = rw (← c .before .before .lengths-right .ensures, not-false (c .before .before .lengths-right .result) (c .before .if1 .left), lt-leb 512 _ (c .if2 .taken))
 
 in-range-requires : tie.Need-in-range-requires
-in-range-requires c κs = long (held (c .before .before .before .before .before .before .before .before)) (sym (c .before .before .lengths-right .ensures) ∙ not-false _ (c .before .if1 .left)) .block
+in-range-requires c κs = state-lent (held (c .before .before .before .before .before .before .before .before)) .0 (sym (c .before .before .lengths-right .ensures) ∙ not-false _ (c .before .if1 .left)) .block
 
 returns-3 : tie.Need-returns-3
 unfolding stopped
-returns-3 c = rw (← c .before .before .before .lengths-right .ensures, not-false (c .before .before .before .lengths-right .result) (c .before .before .if1 .left), le-leb 512 _ (c .before .if2 .left), ← c .in-range .ensures)
+returns-3 c = rw (← c .before .before .before .lengths-right .ensures, not-false (c .before .before .before .lengths-right .result) (c .before .before .if1 .left), le-leb 512 _ (c .before .if2 .left), ← c .in-range .ensures .test)
 
 pub stopped-spec : {M : Type 1} → statement M
 stopped-spec =

@@ -2,7 +2,7 @@
 use native.Mathlib.Omega.{arith}
 use borrow.Author.Tests.{ne-eqb}
 use Rattle.controller.specs.Commands.{writeGains}
-use Rattle.controller.specs.Granted.{GainsWrite}
+use Rattle.controller.specs.Internal.{GainsWrite}
 use borrow.Author.Needs.{needs}
 use Rattle.controller16.proofs.store_gains.Statement.{statement}
 use Rattle.controller16.proofs.store_gains.Tie as tie

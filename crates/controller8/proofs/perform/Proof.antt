@@ -6,8 +6,8 @@ use lib.ListN.{length}
 use Rattle.opcode.specs.Options.{isRead}
 use Rattle.controller.proofs.Demands.{«lent» as lent-right}
 use Rattle.controller.proofs.Grants.{inside, granted, answers-read, stores-write}
-use Rattle.controller8.specs.Bytes.{lent}
-use Rattle.controller8.proofs.Ways.{Small, Sized, sized, unchanged, in-bytes}
+use Rattle.controller8.specs.Bytes.{lent, BytesLent}
+use Rattle.controller8.proofs.Ways.{Small, sized, unchanged, in-bytes}
 use borrow.Author.Needs.{needs}
 use Rattle.controller8.proofs.perform.Statement.{statement}
 use Rattle.controller8.proofs.perform.Tie as tie
@@ -15,7 +15,7 @@ use Rattle.controller8.proofs.perform.Tie as tie
 within : (c : tie.Start) → c .args .at + c .args .size ≤ length (c .args .packet .now)
 within c = inside _ _ _ (c .pre .1) _ _ _ _ (c .pre .2)
 
-sizes : (c : tie.Start) → Sized (lent (c .args .block .now) (c .args .staged .now) (c .args .live .now) (c .args .gains .now))
+sizes : (c : tie.Start) → BytesLent (lent (c .args .block .now) (c .args .staged .now) (c .args .live .now) (c .args .gains .now))
 sizes c = sized _ (c .pre .0)
 
 add-data : tie.Need-add-data

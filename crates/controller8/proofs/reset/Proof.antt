@@ -3,8 +3,9 @@ use mathlib.Core.Path.{_≡_, sym, _∙_}
 use mathlib.Core.Bool.{true}
 use native.Mathlib.Omega.{arith}
 use borrow.Author.Tests.{not-true, not-false}
-use Rattle.controller8.specs.Bytes.{Lent, lent, byteLengthsRight, resetBytes}
-use Rattle.controller8.proofs.Ways.{Sized, sized, reset-way}
+use Rattle.controller8.specs.Bytes.{Lent, lent, byteLengthsRight, resetBytes, BytesLent}
+use Rattle.controller8.proofs.Ways.{sized, reset-way}
+use Rattle.controller8.proofs.Promises.{resets-bytes}
 use borrow.Author.Needs.{needs}
 use Rattle.controller8.proofs.reset.Statement.{statement}
 use Rattle.controller8.proofs.reset.Tie as tie
@@ -18,7 +19,7 @@ held c =
 right : (c : tie.Else1) → byteLengthsRight (held c) ≡ true
 right c = sym (c .before .lengths-right .ensures) ∙ not-false _ (c .if1 .left)
 
-sizes : (c : tie.Else1) → Sized (held c)
+sizes : (c : tie.Else1) → BytesLent (held c)
 sizes c = sized (held c) (right c)
 
 lengths-right-requires : tie.Need-lengths-right-requires
@@ -38,7 +39,7 @@ same-length-4 c = search needs
 
 returns : tie.Need-returns
 unfolding resetBytes
-returns c = rw (sym (c .before .lengths-right .ensures) ∙ not-true _ (c .if1 .taken))
+returns c = resets-bytes _ (rw (sym (c .before .lengths-right .ensures) ∙ not-true _ (c .if1 .taken)))
 
 reset-block-requires : tie.Need-reset-block-requires
 reset-block-requires c κs = sizes (c .before) .block
@@ -69,7 +70,9 @@ returns-2 c = let at-gains = c .before .before in
     let at-live = at-gains .before .before .before .before in
     let at-staged = at-live .before .before .before .before in
     let at-block = at-staged .before .before .before .before in
-    reset-way _ (right (at-block .before .before)) _ (at-block .reset-block .ensures) (at-staged .fill-bytes .ensures) (at-live .fill-bytes2 .ensures) (at-gains .fill-bytes3 .ensures)
+    resets-bytes _
+    (reset-way _ (right (at-block .before .before)) _ (at-block .reset-block .ensures .0) (at-staged .fill-bytes .ensures)
+    (at-live .fill-bytes2 .ensures) (at-gains .fill-bytes3 .ensures))
 
 pub reset-spec : {M : Type 1} → statement M
 reset-spec =

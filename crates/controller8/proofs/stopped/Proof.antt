@@ -2,8 +2,8 @@
 use mathlib.Core.Path.{_≡_, sym, _∙_}
 use mathlib.Core.Bool.{true}
 use borrow.Author.Tests.{not-true, not-false, lt-leb, le-leb}
-use Rattle.controller8.specs.Bytes.{Lent, lent, byteLengthsRight}
-use Rattle.controller8.proofs.Ways.{Sized, sized, stopped-by}
+use Rattle.controller8.specs.Bytes.{Lent, lent, byteLengthsRight, BytesLent}
+use Rattle.controller8.proofs.Ways.{sized, stopped-by}
 use borrow.Author.Needs.{needs}
 use Rattle.controller8.proofs.stopped.Statement.{statement}
 use Rattle.controller8.proofs.stopped.Tie as tie
@@ -17,7 +17,7 @@ held c =
 right : (c : tie.Else1) → byteLengthsRight (held c) ≡ true
 right c = sym (c .before .lengths-right .ensures) ∙ not-false _ (c .if1 .left)
 
-sizes : (c : tie.Else1) → Sized (held c)
+sizes : (c : tie.Else1) → BytesLent (held c)
 sizes c = sized (held c) (right c)
 
 lengths-right-requires : tie.Need-lengths-right-requires
@@ -35,7 +35,7 @@ in-range-requires c κs = sizes (c .before) .block
 
 returns-3 : tie.Need-returns-3
 returns-3 c = let args = c .before .before .before .before .before .before .before .before .before .args in
-    rw (right (c .before .before), stopped-by _ (args .reply .now) (sizes (c .before .before)), le-leb _ _ (c .before .if2 .left), c .in-range .ensures)
+    rw (right (c .before .before), stopped-by _ (args .reply .now) (sizes (c .before .before)), le-leb _ _ (c .before .if2 .left), c .in-range .ensures .test)
 
 pub stopped-spec : {M : Type 1} → statement M
 stopped-spec =

@@ -2,7 +2,7 @@
 use mathlib.Core.Path.{sym, _∙_}
 use native.Mathlib.Omega.{arith}
 use borrow.Author.Tests.{ne-eqb}
-use Rattle.controller.specs.Granted.{GainsWrite}
+use Rattle.controller.specs.Internal.{GainsWrite}
 use Rattle.controller8.proofs.Moves.{lent-words, gains-all, gains-one}
 use borrow.Author.Needs.{needs}
 use Rattle.controller8.proofs.store_gains.Statement.{statement}

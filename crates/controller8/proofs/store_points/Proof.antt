@@ -2,7 +2,7 @@
 use mathlib.Core.Path.{_∙_}
 use native.Mathlib.Omega.{arith}
 use borrow.Author.Tests.{ne-eqb}
-use Rattle.controller.specs.Granted.{PointsWrite}
+use Rattle.controller.specs.Internal.{PointsWrite}
 use Rattle.controller8.proofs.Moves.{lent-words, points-stored}
 use borrow.Author.Needs.{needs}
 use Rattle.controller8.proofs.store_points.Statement.{statement}

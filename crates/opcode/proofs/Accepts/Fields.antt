@@ -11,7 +11,7 @@ use lib.Dec.{eqb, leb, ltb}
 use borrow.Author.Tests.{ltb-false, eqb-true, not-false, le-leb, lt-leb, le-ltb, eq-eqb}
 use Rattle.opcode.specs.declared.Field.{Field}
 use Rattle.opcode.specs.Fields.{takes, number, fault}
-use Rattle.opcode.proofs.Accepts.Tests.{told}
+use Rattle.wire.proofs.Tests.{told}
 use Rattle.opcode.proofs.Accepts.Lists.{bytesAt, exactly}
 
 -- From low to high, and below the gap or past it: the last of the three as `omega` reads it.

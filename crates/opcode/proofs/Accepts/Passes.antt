@@ -10,7 +10,7 @@ use Rattle.opcode.specs.Fields.{fault}
 use Rattle.opcode.specs.Options.{isRead}
 use Rattle.opcode.specs.Commands.{commandOf, fixed, variable}
 use Rattle.opcode.specs.Judgement.{judgement, unknown, lacksLength, sizeWrong, variableSizeWrong, valueFault, variableFault}
-use Rattle.opcode.proofs.Accepts.Tests.{Silent}
+use Rattle.wire.proofs.Tests.{Silent}
 use Rattle.opcode.proofs.Accepts.Fields.{Right, right-size, right-value, tests-right}
 use Rattle.opcode.proofs.Accepts.Commands.{sets-span, sets-sized}
 

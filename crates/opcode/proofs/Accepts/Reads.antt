@@ -11,7 +11,7 @@ use Rattle.opcode.specs.Options.{isRead}
 use Rattle.opcode.specs.Commands.{commandOf, notCarried}
 use Rattle.opcode.specs.Judgement.{judgement, unknown, sizeWrong, valueFault}
 use Rattle.opcode.specs.Allowed.{ReadData, SendsNothing, nothing, points, gains}
-use Rattle.opcode.proofs.Accepts.Tests.{Silent}
+use Rattle.wire.proofs.Tests.{Silent}
 use Rattle.opcode.proofs.Accepts.Fields.{All, Right, right-size, right-value, tests-right, shown}
 use Rattle.opcode.proofs.Accepts.Lists.{bytesAt, exactly}
 use Rattle.opcode.proofs.Accepts.Commands.{_&_, of-carried, asks-span, asks-sized}

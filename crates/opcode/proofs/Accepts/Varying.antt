@@ -15,7 +15,7 @@ use Rattle.opcode.specs.Fields.{word, fault, wordsAt, rise, firstLarge}
 use Rattle.opcode.specs.Commands.{commandOf, flag}
 use Rattle.opcode.specs.Judgement.{pointsSizeWrong, smoothSizeWrong, smoothFault, gainsSizeWrong, gainsFault, controlSizeWrong, controlFault, listsFault}
 use Rattle.opcode.specs.Allowed.{WriteData, points, smooth, shape, lists, Rising}
-use Rattle.opcode.proofs.Accepts.Tests.{told}
+use Rattle.wire.proofs.Tests.{told}
 use Rattle.opcode.proofs.Accepts.Fields.{All, Right, right-value, tests-right, all-fault, fault-all, fault-here}
 use Rattle.opcode.proofs.Accepts.Lists.{headed, exactly, words-part, words-rest, length-wordsAt, rising-rise, rise-rising, small-gains, gains-small}
 use Rattle.opcode.proofs.Accepts.Passes.{Passes}

@@ -12,7 +12,7 @@ use Rattle.opcode.specs.Options.{isRead, hasLength}
 use Rattle.opcode.specs.Commands.{commandOf, fixed, variable, notCarried}
 use Rattle.opcode.specs.Judgement.{judgement, unknown, lacksLength}
 use Rattle.opcode.specs.Allowed.{WriteData, NeedsLength}
-use Rattle.opcode.proofs.Accepts.Tests.{Silent}
+use Rattle.wire.proofs.Tests.{Silent}
 use Rattle.opcode.proofs.Accepts.Fields.{All, shown}
 use Rattle.opcode.proofs.Accepts.Lists.{bytesAt, exactly}
 use Rattle.opcode.proofs.Accepts.Commands.{_&_, of-carried}

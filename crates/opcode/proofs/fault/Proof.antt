@@ -6,7 +6,7 @@ use borrow.Author.Needs.{needs}
 use borrow.Author.Tests.{not-true, not-false}
 use lib.Seq.{slice}
 use Rattle.opcode.specs.Fields.{«fault»}
-use Rattle.opcode.specs.Table.{fieldList, fieldsFrom}
+use Rattle.opcode.specs.Internal.{fieldList, fieldsFrom}
 use Rattle.opcode.proofs.Laws.{size-small, fault-start, fault-turn, fault-stop, fault-done}
 use Rattle.opcode.proofs.fault.Statement.{statement}
 use Rattle.opcode.proofs.fault.Tie as tie

@@ -3,7 +3,7 @@ use Prim.Native.Nat.{ℕ}
 use mathlib.Core.Bool.{Bool}
 use mathlib.Core.List.{List, [], _∷_}
 use Rattle.opcode.specs.declared.Field.{Field}
-use Rattle.opcode.specs.Table.{noField, fieldList}
+use Rattle.opcode.specs.Internal.{noField, fieldList}
 use Rattle.opcode.proofs.Table.{everywhere}
 use Rattle.opcode.proofs.Arms.{hasArm, no-arm}
 use Rattle.opcode.proofs.Rows.{sameField, keyed-field}

@@ -2,7 +2,7 @@
 use Prim.Native.Nat.{ℕ}
 use mathlib.Core.List.{List, [], _∷_}
 use Rattle.opcode.specs.Commands.{commandOf}
-use Rattle.opcode.specs.Table.{fieldList}
+use Rattle.opcode.specs.Internal.{fieldList}
 use Rattle.opcode.proofs.Rows.{sameField, sameFields, placed, keyed-runs, unkeyed-runs}
 use Rattle.opcode.proofs.runs_of.Statement.{statement}
 use Rattle.opcode.proofs.runs_of.Tie as tie

@@ -3,8 +3,9 @@ use mathlib.Core.Path.{_≡_, sym, _∙_}
 use native.Mathlib.Omega.{arith}
 use borrow.Author.Tests.{eq-eqb, ne-eqb}
 use Rattle.opcode.proofs.Below.{carried-below}
-use Rattle.packet.specs.Reading.{framed}
+use Rattle.packet.specs.Internal.{framed}
 use Rattle.packet.proofs.Frames.{broken-read, stands, judged-read}
+use Rattle.packet.proofs.Promises.{read-promised}
 use borrow.Author.Needs.{needs}
 use Rattle.packet.proofs.read.Statement.{statement}
 use Rattle.packet.proofs.read.Tie as tie
@@ -37,7 +38,8 @@ returns : tie.Need-returns
 returns c =
     let told = c .before in
     let found = told .before .before in
-    c .refused .ensures ∙ rw (told .enum-told .given .1) (broken-read _ _ (rw (told .enum-told .given .1) at (found .frame-of .ensures)))
+    read-promised _ (λ k. found .before .shared-slice-known .given k .fits)
+    (c .refused .ensures ∙ rw (told .enum-told .given .1) (broken-read _ _ (rw (told .enum-told .given .1) at (found .frame-of .ensures))))
 
 cast-judge : tie.Need-cast-judge
 cast-judge c = search needs
@@ -60,7 +62,9 @@ judge-requires c κs = search needs
 returns-2 : tie.Need-returns-2
 returns-2 c =
     let judged = c .before .before in
-    rw (ne-eqb _ _ (c .if1 .taken)) at (judged-read _ _ _ _ _ _ (sound (judged .before .before .before)) (judged .judge .ensures))
+    let framed = judged .before .before .before in
+    read-promised _ (λ k. framed .before .before .before .shared-slice-known .given k .fits)
+    (rw (ne-eqb _ _ (c .if1 .taken)) at (judged-read _ _ _ _ _ _ (sound framed) (judged .judge .ensures)))
 
 cast-t15 : tie.Need-cast-t15
 cast-t15 c = omega (arith, carried-below _ _ _ (sym (c .before .before .judge .ensures) ∙ c .if1 .left))
@@ -68,7 +72,9 @@ cast-t15 c = omega (arith, carried-below _ _ _ (sym (c .before .before .judge .e
 returns-3 : tie.Need-returns-3
 returns-3 c =
     let judged = c .before .before in
-    rw (eq-eqb _ _ (c .if1 .left)) at (judged-read _ _ _ _ _ _ (sound (judged .before .before .before)) (judged .judge .ensures))
+    let framed = judged .before .before .before in
+    read-promised _ (λ k. framed .before .before .before .shared-slice-known .given k .fits)
+    (rw (eq-eqb _ _ (c .if1 .left)) at (judged-read _ _ _ _ _ _ (sound framed) (judged .judge .ensures)))
 
 pub read-spec : {M : Type 1} → statement M
 read-spec =

@@ -1,8 +1,8 @@
 -- On a refusal nothing changes; else the room is filled, and plan and batch are written from it.
 use mathlib.Core.Path.{_≡_, sym, _∙_}
 use Rattle.wire.specs.First.{first}
-use Rattle.upload.specs.Planning.{Sheets, sheets, planRefusals}
-use Rattle.upload.proofs.Outcome.{Fit, fit, refused, done}
+use Rattle.upload.specs.Planning.{Sheets, sheets, planRefusals, PointsRight, NumbersRight}
+use Rattle.upload.proofs.Outcome.{fit, refused, done}
 use borrow.Author.Needs.{needs}
 use Rattle.planner16.proofs.plan.Statement.{statement}
 use Rattle.planner16.proofs.plan.Tie as tie
@@ -26,7 +26,8 @@ lent c = sheets (at-start c .args .plan .now) (at-start c .args .room .now) (at-
 silent : (c : tie.Else1) → first (planRefusals (at-start c .args .points) (at-start c .args .held .now) (at-start c .args .wanted .now) (lent c)) ≡ 0
 silent c = sym (c .before .refusal .ensures) ∙ c .if1 .left
 
-fits : (c : tie.Else1) → Fit (at-start c .args .points) 2 3968 1985 (at-start c .args .held .now) (at-start c .args .wanted .now) (lent c)
+fits : (c : tie.Else1)
+    → PointsRight (at-start c .args .points) × NumbersRight (at-start c .args .points) (at-start c .args .held .now) (at-start c .args .wanted .now) (lent c)
 fits c = fit _ _ _ _ _ _ _ (silent c)
 
 returns : tie.Need-returns
@@ -35,12 +36,12 @@ returns c = refused _ _ _ _ (c .before .refusal .ensures) (c .if1 .taken)
 fill-room-requires : tie.Need-fill-room-requires
 fill-room-requires c κs =
     let f = fits (c .before) in
-    (f .few, f .held-long, f .wanted-long, f .room-long)
+    (f .0 .few, f .1 .held-long, f .1 .wanted-long, f .1 .room-long)
 
 write-plan-requires : tie.Need-write-plan-requires
 write-plan-requires c κs =
     let f = fits (c .before .before .before .before .before .before .before) in
-    (f .few, f .held-long, f .wanted-long, f .plan-long, f .batch-long, c .before .before .before .before .before .fill-room .ensures)
+    (f .0 .few, f .1 .held-long, f .1 .wanted-long, f .1 .plan-long, f .1 .batch-long, c .before .before .before .before .before .fill-room .ensures)
 
 same-length : tie.Need-same-length
 same-length c = search needs
@@ -60,8 +61,8 @@ returns-2 c =
     let wrote = c .before .before .before .before .write-plan .ensures in
     rw (wrote .0)
     (done (args .points) (args .held .now) (args .wanted .now) (lent taken) (silent taken)
-    (record { long = f .held-long; words = λ k. taken .before .before .before .before .before .before .shared-slice-known .given k .fits })
-    (record { long = f .wanted-long; words = λ k. taken .before .before .before .before .before .shared-slice-known2 .given k .fits })
+    (record { long = f .1 .held-long; words = λ k. taken .before .before .before .before .before .before .shared-slice-known .given k .fits })
+    (record { long = f .1 .wanted-long; words = λ k. taken .before .before .before .before .before .shared-slice-known2 .given k .fits })
     (filled .fill-room .ensures)
     (record { packets-are = wrote .1; bytes-are = wrote .2; plan-is = wrote .3; batch-is = wrote .4 }))
 

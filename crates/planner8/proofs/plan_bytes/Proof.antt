@@ -5,8 +5,8 @@ use Rattle.wire.specs.First.{first}
 use Rattle.wire.specs.Tables.{words}
 use Rattle.wire.proofs.Tables.{bytes-longs}
 use Rattle.tables.proofs.Bytes.{bytes-words}
-use Rattle.upload.specs.Planning.{Sheets, sheets, sheetsIn, bytePlanRefusals}
-use Rattle.upload.proofs.Outcome.{Fit, fit, taken, fit-words, refused-bytes, done, done-bytes}
+use Rattle.upload.specs.Planning.{Sheets, sheets, sheetsIn, bytePlanRefusals, PointsRight, BytesRight}
+use Rattle.upload.proofs.Outcome.{fit, taken, fit-words, refused-bytes, done, done-bytes}
 use Rattle.planner8.proofs.Places.{map-words}
 use borrow.Author.Needs.{needs}
 use Rattle.planner8.proofs.plan_bytes.Statement.{statement}
@@ -31,7 +31,8 @@ lent c = sheets (at-start c .args .plan .now) (at-start c .args .room .now) (at-
 silent : (c : tie.Else1) → first (bytePlanRefusals (at-start c .args .points) (at-start c .args .held .now) (at-start c .args .wanted .now) (lent c)) ≡ 0
 silent c = sym (c .before .refusal .ensures) ∙ c .if1 .left
 
-fits : (c : tie.Else1) → Fit (at-start c .args .points) 4 7936 7940 (at-start c .args .held .now) (at-start c .args .wanted .now) (lent c)
+fits : (c : tie.Else1)
+    → PointsRight (at-start c .args .points) × BytesRight (at-start c .args .points) (at-start c .args .held .now) (at-start c .args .wanted .now) (lent c)
 fits c = fit _ _ _ _ _ _ _ (silent c)
 
 returns : tie.Need-returns
@@ -40,12 +41,12 @@ returns c = refused-bytes _ _ _ _ (c .before .refusal .ensures) (c .if1 .taken)
 fill-room-requires : tie.Need-fill-room-requires
 fill-room-requires c κs =
     let f = fits (c .before) in
-    (f .few, f .held-long, f .wanted-long, f .room-long)
+    (f .0 .few, f .1 .held-long, f .1 .wanted-long, f .1 .room-long)
 
 write-plan-requires : tie.Need-write-plan-requires
 write-plan-requires c κs =
     let f = fits (c .before .before .before .before .before .before .before) in
-    (f .few, f .held-long, f .wanted-long, f .plan-long, f .batch-long, c .before .before .before .before .before .fill-room .ensures)
+    (f .0 .few, f .1 .held-long, f .1 .wanted-long, f .1 .plan-long, f .1 .batch-long, c .before .before .before .before .before .fill-room .ensures)
 
 same-length : tie.Need-same-length
 same-length c = search needs
@@ -67,14 +68,15 @@ returns-2 c =
     let wrote = c .before .before .before .before .write-plan in
     let planned =
     done (args .points) (words held) (words wanted) (sheetsIn (lent went)) (taken _ _ _ _ _ _ _ (fit-words f))
-    (map-words (args .points) held (f .held-long) (λ k. went .before .before .before .before .before .before .shared-slice-known .given k .fits))
-    (map-words (args .points) wanted (f .wanted-long) (λ k. went .before .before .before .before .before .shared-slice-known2 .given k .fits))
+    (map-words (args .points) held (f .1 .held-long) (λ k. went .before .before .before .before .before .before .shared-slice-known .given k .fits))
+    (map-words (args .points) wanted (f .1 .wanted-long) (λ k. went .before .before .before .before .before .shared-slice-known2 .given k .fits))
     (filled .fill-room .ensures)
     (record { packets-are = wrote .ensures .1; bytes-are = wrote .ensures .2; plan-is = wrote .ensures .3; batch-is = wrote .ensures .4 }) in
     rw (wrote .ensures .0)
     (done-bytes (args .points) held wanted (lent went) (silent went)
-    (bytes-words (wrote .last .1 .1 .0) (omega (arith, f .plan-long)) (λ k. c .before .before .slice-known5 .given k .fits))
-    (bytes-longs (filled .fill-room .last .1 .1 .0) (omega (arith, f .room-long)) (λ k. c .before .before .before .before .before .before .before .before .slice-known4 .given k .fits))
+    (bytes-words (wrote .last .1 .1 .0) (omega (arith, f .1 .plan-long)) (λ k. c .before .before .slice-known5 .given k .fits))
+    (bytes-words (args .plan .now) (omega (arith, f .1 .plan-long)) (λ k. went .before .before .before .before .slice-known .given k .fits))
+    (bytes-longs (filled .fill-room .last .1 .1 .0) (omega (arith, f .1 .room-long)) (λ k. c .before .before .before .before .before .before .before .before .slice-known4 .given k .fits))
     planned)
 
 pub plan-bytes-spec : {M : Type 1} → statement M

@@ -2,6 +2,7 @@
 use borrow.Author.Needs.{needs}
 use borrow.Author.Tests.{lt-ltb, le-ltb, eq-eqb, ne-eqb}
 use Rattle.reply.specs.Reading.{replyReading}
+use Rattle.reply.proofs.Promises.{reply-promised}
 use Rattle.reply.proofs.read_reply.Statement.{statement}
 use Rattle.reply.proofs.read_reply.Tie as tie
 
@@ -17,7 +18,8 @@ refused-requires c κs = search needs
 returns : tie.Need-returns
 unfolding replyReading
 returns c =
-    simp (← c .before .before .sum-size .ensures .0, lt-ltb _ _ (c .before .if1 .taken), c .refused .ensures)
+    reply-promised _ _
+    (simp (← c .before .before .sum-size .ensures .0, lt-ltb _ _ (c .before .if1 .taken), c .refused .ensures))
 
 refused-requires-2 : tie.Need-refused-requires-2
 refused-requires-2 c κs = search needs
@@ -25,12 +27,13 @@ refused-requires-2 c κs = search needs
 returns-2 : tie.Need-returns-2
 unfolding replyReading
 returns-2 c =
-    simp (
+    reply-promised _ _
+    (simp (
       ← c .before .before .before .sum-size .ensures .0,
       le-ltb _ _ (c .before .before .if1 .left),
       lt-ltb _ _ (c .before .if2 .taken),
       c .refused2 .ensures,
-    )
+    ))
 
 sub-size : tie.Need-sub-size
 sub-size c = search needs
@@ -49,14 +52,15 @@ unfolding replyReading
 returns-3 c =
     let at-2 = c .before .before .before in
     let at-1 = at-2 .before in
-    simp (
+    reply-promised _ _
+    (simp (
       ← at-1 .before .sum-size .ensures .0,
       le-ltb _ _ (at-1 .if1 .left),
       le-ltb _ _ (at-2 .if2 .left),
       ← c .before .before .word .ensures .0,
       ne-eqb _ _ (c .before .if3 .taken),
       c .refused3 .ensures,
-    )
+    ))
 
 sum-wrong-requires : tie.Need-sum-wrong-requires
 sum-wrong-requires c κs = search needs
@@ -70,7 +74,8 @@ returns-4 c =
     let at-3 = c .before .before .before in
     let at-2 = at-3 .before .before in
     let at-1 = at-2 .before in
-    simp (
+    reply-promised _ _
+    (simp (
       ← at-1 .before .sum-size .ensures .0,
       le-ltb _ _ (at-1 .if1 .left),
       le-ltb _ _ (at-2 .if2 .left),
@@ -79,7 +84,7 @@ returns-4 c =
       ← c .before .before .sum-wrong .ensures,
       c .before .if4 .taken,
       c .refused4 .ensures,
-    )
+    ))
 
 shared-slice-read-status : tie.Need-shared-slice-read-status
 shared-slice-read-status c = search needs
@@ -94,7 +99,8 @@ returns-5 c =
     let at-3 = at-4 .before .before in
     let at-2 = at-3 .before .before in
     let at-1 = at-2 .before in
-    simp (
+    reply-promised _ _
+    (simp (
       ← at-1 .before .sum-size .ensures .0,
       le-ltb _ _ (at-1 .if1 .left),
       le-ltb _ _ (at-2 .if2 .left),
@@ -104,7 +110,7 @@ returns-5 c =
       at-4 .if4 .left,
       lt-ltb _ _ (c .before .if5 .taken),
       c .refused5 .ensures,
-    )
+    ))
 
 returns-6 : tie.Need-returns-6
 unfolding replyReading
@@ -113,7 +119,8 @@ returns-6 c =
     let at-3 = at-4 .before .before in
     let at-2 = at-3 .before .before in
     let at-1 = at-2 .before in
-    simp (
+    reply-promised _ _
+    (simp (
       ← at-1 .before .sum-size .ensures .0,
       le-ltb _ _ (at-1 .if1 .left),
       le-ltb _ _ (at-2 .if2 .left),
@@ -122,7 +129,7 @@ returns-6 c =
       ← at-4 .before .sum-wrong .ensures,
       at-4 .if4 .left,
       le-ltb _ _ (c .if5 .left),
-    )
+    ))
 
 pub read-reply-spec : {M : Type 1} → statement M
 read-reply-spec =

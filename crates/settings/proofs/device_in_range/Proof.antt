@@ -2,27 +2,22 @@
 use Prim.Native.Nat.{ℕ, _+_}
 use mathlib.Core.Path.{_≡_, sym}
 use mathlib.Core.Bool.{Bool, true, _&&_, and-true, and-assoc}
-use mathlib.Core.List.{List, [], _∷_, _++_}
+use mathlib.Core.List.{List}
 use lib.Dec.{leb}
 use Rattle.wire.specs.Numbers.{byteAt}
 use Rattle.opcode.specs.declared.Field.{Field}
-use Rattle.opcode.specs.Fields.{byte}
 use Rattle.opcode.specs.Commands.{commandOf}
 use Rattle.opcode.proofs.Accepts.Fields.{span}
-use Rattle.settings.specs.Ranges.{right, fieldsOf, behindPort, forEach, deviceFields}
-use Rattle.settings.proofs.Laws.{right-append, right-byte}
+use Rattle.settings.specs.Ranges.{right, behindPort, forEach, updateMode, deviceFields}
+use Rattle.settings.proofs.Laws.{right-append, right-byte, device-runs}
 use borrow.Author.Needs.{needs}
 use Rattle.settings.proofs.device_in_range.Statement.{statement}
 use Rattle.settings.proofs.device_in_range.Tie as tie
 
--- Four runs, and a fifth three times.
-runs : (e f g h k : List Field) (d : List ℕ) (at : ℕ)
-    → right (e ++ f ++ g ++ h ++ forEach 3 k) d at
-    ≡ (right e d at && right f d (at + span e) && right g d (at + span (e ++ f)) && right h d (at + span (e ++ f ++ g))
-    && (right k d (at + span (e ++ f ++ g ++ h))
-    && (right k d (at + span (e ++ f ++ g ++ h) + span k) && (right k d (at + span (e ++ f ++ g ++ h) + span k + span k) && true))))
+three : (fs : List Field) (d : List ℕ) (at : ℕ)
+    → right (forEach 3 fs) d at ≡ (right fs d at && (right fs d (at + span fs) && (right fs d (at + span fs + span fs) && true)))
 unfolding right
-runs e f g h k d at = simp right-append
+three fs d at = simp right-append
 
 joined : (fine e f g h k l m : Bool)
     → (fine && (e && f && g && h && (k && (l && (m && true))))) ≡ (fine && e && f && g && h && k && l && m)
@@ -30,16 +25,17 @@ joined fine e f g h k l m = simp (and-assoc, and-true)
 
 parts : (d : List ℕ) (fine : Bool)
     → (fine && right deviceFields d 497)
-    ≡ (fine && leb (byteAt d 497) 0 && right (forEach 88 (behindPort 0x60)) d 498 && right (forEach 12 (behindPort 0x65)) d 762
+    ≡ (fine && leb (byteAt d 497) (updateMode .high) && right (forEach 88 (behindPort 0x60)) d 498 && right (forEach 12 (behindPort 0x65)) d 762
     && leb (byteAt d 834) 1 && right (behindPort 0x6D) d 835 && right (behindPort 0x6D) d 845 && right (behindPort 0x6D) d 855)
-unfolding deviceFields commandOf
+unfolding commandOf
 parts d fine =
     rw (
-      runs (byte 0 0 ∷ []) (forEach 88 (behindPort 0x60)) (forEach 12 (behindPort 0x65)) (fieldsOf 0x6C) (behindPort 0x6D) d 497,
-      right-byte 0 d 497,
+      device-runs d,
+      three (behindPort 0x6D) d 835,
+      right-byte (updateMode .high) d 497,
       right-byte 1 d 834,
     )
-    (joined fine (leb (byteAt d 497) 0) (right (forEach 88 (behindPort 0x60)) d 498) (right (forEach 12 (behindPort 0x65)) d 762)
+    (joined fine (leb (byteAt d 497) (updateMode .high)) (right (forEach 88 (behindPort 0x60)) d 498) (right (forEach 12 (behindPort 0x65)) d 762)
     (leb (byteAt d 834) 1) (right (behindPort 0x6D) d 835) (right (behindPort 0x6D) d 845) (right (behindPort 0x6D) d 855))
 
 up-to-requires : tie.Need-up-to-requires

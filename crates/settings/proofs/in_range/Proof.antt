@@ -1,4 +1,4 @@
--- The six parts of the rule, in its order.
+-- The six parts of the test, in its order.
 use Prim.Native.Nat.{ℕ}
 use mathlib.Core.Path.{_≡_, sym}
 use mathlib.Core.Bool.{_&&_, and-true, and-assoc}
@@ -9,6 +9,7 @@ use Rattle.opcode.specs.Fields.{from-to, takes}
 use Rattle.opcode.specs.Commands.{commandOf}
 use Rattle.settings.specs.Ranges.{right, fieldsOf, pictureFields, deviceFields, shapeRight, settingsRight}
 use Rattle.settings.proofs.Laws.{right-byte}
+use Rattle.settings.proofs.Allowed.{in-range}
 use borrow.Author.Needs.{needs}
 use Rattle.settings.proofs.in_range.Statement.{statement}
 use Rattle.settings.proofs.in_range.Tie as tie
@@ -68,7 +69,9 @@ returns c =
     let at-3 = at-4 .before in
     let at-2 = at-3 .before in
     let at-1 = at-2 .before in
-    rw (
+    let at-start = at-1 .before .before in
+    in-range (at-start .args .block .now) (at-start .pre) _
+    (rw (
       c .device-in-range .ensures,
       at-8 .within2 .ensures,
       at-8 .before .byte2 .ensures .0,
@@ -81,7 +84,7 @@ returns c =
       at-2 .shape-in-range .ensures,
       at-1 .picture-in-range .ensures,
     )
-    (sym (parts (at-1 .before .before .args .block .now)))
+    (sym (parts (at-start .args .block .now))))
 
 pub in-range-spec : {M : Type 1} → statement M
 in-range-spec =

@@ -1,5 +1,7 @@
--- The runs are those of the law.
+-- The runs are those of the law; what they leave is allowed.
+use mathlib.Core.Path.{refl}
 use Rattle.settings.proofs.Resets.{reset-over}
+use Rattle.settings.proofs.Allowed.{reset-allowed}
 use borrow.Author.Needs.{needs}
 use Rattle.settings.proofs.reset_block.Statement.{statement}
 use Rattle.settings.proofs.reset_block.Tie as tie
@@ -30,8 +32,15 @@ returns c =
     let at-2 = at-3 .before .before .before .before in
     let at-1 = at-2 .before .before .before .before in
     let at-start = at-1 .before .before .before in
-    rw (at-5 .spread3 .ensures, at-4 .spread2 .ensures, at-3 .reset-shape2 .ensures, at-2 .reset-shape .ensures, at-1 .spread .ensures)
-    (reset-over (at-start .args .block .now) (at-start .pre))
+    rw (
+      at-5 .spread3 .ensures,
+      at-4 .spread2 .ensures,
+      at-3 .reset-shape2 .ensures,
+      at-2 .reset-shape .ensures,
+      at-1 .spread .ensures,
+      reset-over (at-start .args .block .now) (at-start .pre),
+    )
+    (refl, reset-allowed)
 
 pub reset-block-spec : {M : Type 1} → statement M
 reset-block-spec =

@@ -4,7 +4,7 @@ use Prim.Native.Nat.{_-_, _≤_}
 use native.Mathlib.Numerals.{add-one}
 use native.Mathlib.Omega.{arith}
 use lib.ListN.{length, length-set}
-use Rattle.settings.specs.Spread.{spreadOver}
+use Rattle.settings.specs.Internal.{spreadOver}
 use Rattle.settings.proofs.spread.Statement.{statement}
 use Rattle.settings.proofs.spread.Tie as tie
 

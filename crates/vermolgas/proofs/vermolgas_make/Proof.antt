@@ -1,18 +1,18 @@
 -- Status and size are packed side by side, and a made packet is no longer than 512 bytes.
 use Prim.Native.Nat.{_≤_}
-use mathlib.Core.Path.{ap, subst, sym}
+use mathlib.Core.Path.{subst, sym}
 use native.Mathlib.Omega.{arith}
 use borrow.Author.Needs.{needs}
 use Rattle.packet.specs.Making.{Made}
 use Rattle.packet.proofs.Within.{made-within}
-use Rattle.vermolgas.specs.Packed.{packedMade}
+use Rattle.vermolgas.proofs.Packs.{make-packed}
 use Rattle.vermolgas.proofs.vermolgas_make.Statement.{statement}
 use Rattle.vermolgas.proofs.vermolgas_make.Tie as tie
 
 small : (c : tie.After-struct-known) → c .before .before .before .make .result .size ≤ 512
 small c =
     let args = c .before .before .before .before .before .before .before .args in
-    subst (λ (m : Made). m .size ≤ 512) (sym (c .before .before .before .make .ensures))
+    subst (λ (m : Made). m .size ≤ 512) (sym (c .before .before .before .make .ensures .outcome))
     (made-within (args .opcode) (args .options) (args .«data» .now) (args .buffer .now))
 
 make-requires : tie.Need-make-requires
@@ -31,9 +31,7 @@ same-length : tie.Need-same-length
 same-length c = search needs
 
 returns : tie.Need-returns
-returns c =
-    let e = c .before .before .before .make .ensures in
-    (ap packedMade e, ap (λ (m : Made). m .buffer) e)
+returns c = make-packed _ _ _ _ _ _ (omega arith) (omega arith) (c .before .before .before .make .ensures)
 
 pub vermolgas-make-spec : {M : Type 1} → statement M
 vermolgas-make-spec =

@@ -1,10 +1,10 @@
 -- Status and size are packed side by side, and no reply is longer than 512 bytes.
 use Prim.Native.Nat.{_≤_}
-use mathlib.Core.Path.{ap, subst, sym}
+use mathlib.Core.Path.{subst, sym}
 use native.Mathlib.Omega.{arith}
 use borrow.Author.Needs.{needs}
 use Rattle.controller8.specs.Bytes.{LentOut, lent}
-use Rattle.vermolgas.specs.Packed.{packedStep}
+use Rattle.vermolgas.proofs.Packs.{out-packed}
 use Rattle.vermolgas.proofs.Small.{step-bytes-small}
 use Rattle.vermolgas.proofs.vermolgas_packet.Statement.{statement}
 use Rattle.vermolgas.proofs.vermolgas_packet.Tie as tie
@@ -12,7 +12,7 @@ use Rattle.vermolgas.proofs.vermolgas_packet.Tie as tie
 small : (c : tie.After-struct-known) → c .before .before .before .before .before .before .before .before .before .before .before .handle .result .size ≤ 512
 small c =
     let args = c .before .before .before .before .before .before .before .before .before .before .before .before .before .before .before .before .before .before .before .before .before .before .before .args in
-    subst (λ (o : LentOut). o .size ≤ 512) (sym (c .before .before .before .before .before .before .before .before .before .before .before .handle .ensures))
+    subst (λ (o : LentOut). o .size ≤ 512) (sym (c .before .before .before .before .before .before .before .before .before .before .before .handle .ensures .outcome))
     (step-bytes-small (args .packet .now) (lent (args .block .now) (args .staged .now) (args .live .now) (args .gains .now)) (args .reply .now))
 
 handle-requires : tie.Need-handle-requires
@@ -43,7 +43,7 @@ same-length-5 : tie.Need-same-length-5
 same-length-5 c = search needs
 
 returns : tie.Need-returns
-returns c = ap packedStep (c .before .before .before .before .before .before .before .before .before .before .before .handle .ensures)
+returns c = out-packed _ _ _ _ _ (omega arith) (omega arith) (c .before .before .before .before .before .before .before .before .before .before .before .handle .ensures)
 
 pub vermolgas-packet-spec : {M : Type 1} → statement M
 vermolgas-packet-spec =

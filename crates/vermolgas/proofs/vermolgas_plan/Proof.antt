@@ -1,20 +1,16 @@
 -- Status, packets and bytes are packed side by side, and none of them is large, so each is what its bits say.
 use Prim.Native.Nat.{_+_, _*_, _/_, _%_, _≤_}
-use mathlib.Core.Path.{_≡_, ap, subst, sym}
+use mathlib.Core.Path.{_≡_, ap}
 use native.Mathlib.Omega.{arith}
 use borrow.Author.Needs.{needs}
-use Rattle.upload.specs.Planning.{sheets, PlanOut}
+use Rattle.upload.specs.Planning.{PlanOut}
 use Rattle.upload.proofs.Small.{answer-small}
 use Rattle.vermolgas.specs.Packed.{packedPlan}
 use Rattle.vermolgas.proofs.vermolgas_plan.Statement.{statement}
 use Rattle.vermolgas.proofs.vermolgas_plan.Tie as tie
 
 small : (c : tie.After-struct-known) → (c .before .before .before .before .before .before .before .plan-bytes .result .packets ≤ 8032) × (c .before .before .before .before .before .before .before .plan-bytes .result .bytes ≤ 8032)
-small c =
-    let args = c .before .before .before .before .before .before .before .before .before .before .before .before .before .before .before .before .args in
-    subst (λ (o : PlanOut). (o .packets ≤ 8032) × (o .bytes ≤ 8032)) (sym (c .before .before .before .before .before .before .before .plan-bytes .ensures .outcome))
-    (answer-small (args .points) (args .held .now) (args .wanted .now) (sheets (args .plan .now) (args .room .now) (args .batch .now))
-    (λ k. c .before .before .before .before .before .before .before .before .before .before .before .before .before .before .before .shared-slice-known .given k .fits) (λ k. c .before .before .before .before .before .before .before .before .before .before .before .before .before .before .shared-slice-known2 .given k .fits))
+small c = answer-small (c .before .before .before .before .before .before .before .plan-bytes .ensures)
 
 plan-bytes-requires : tie.Need-plan-bytes-requires
 plan-bytes-requires c κs = search needs
@@ -50,12 +46,11 @@ returns c =
     let s = small c in
     let packets : (a .status + 256 * a .packets + 4294967296 * a .bytes) / 256 % 16777216 ≡ a .packets = omega (arith, s) in
     let bytes : (a .status + 256 * a .packets + 4294967296 * a .bytes) / 4294967296 ≡ a .bytes = omega (arith, s) in
+    let status : (a .status + 256 * a .packets + 4294967296 * a .bytes) % 256 ≡ a .status = omega arith in
     record {
       packed = ap packedPlan (told .outcome);
       lists = ap (λ (o : PlanOut). o .left) (told .outcome);
-      fewest = λ z. rw (packets, bytes) (told .fewest (omega arith));
-      plan = λ z. rw (packets, bytes) (told .plan (omega arith));
-      room = λ z. told .room (omega arith);
+      planned = rw (status, packets, bytes) told;
     }
 
 pub vermolgas-plan-spec : {M : Type 1} → statement M

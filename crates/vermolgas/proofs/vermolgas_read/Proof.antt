@@ -5,7 +5,7 @@ use native.Mathlib.Omega.{arith}
 use borrow.Author.Needs.{needs}
 use Rattle.packet.specs.Reading.{Answer, reading}
 use Rattle.packet.proofs.Within.{Within, reading-within}
-use Rattle.vermolgas.specs.Packed.{packedReading}
+use Rattle.vermolgas.proofs.Packs.{read-packed}
 use Rattle.vermolgas.proofs.vermolgas_read.Statement.{statement}
 use Rattle.vermolgas.proofs.vermolgas_read.Tie as tie
 
@@ -19,7 +19,7 @@ command : (c : tie.After-known-told)
       size = c .before .r .given .0 .1 .1 .1 .0;
     }
     ≡ reading (c .before .before .before .before .before .args .packet .now)
-command c = rw (c .before .r .given .1) at (c .before .before .before .read .ensures)
+command c = rw (c .before .r .given .1) at (c .before .before .before .read .ensures .outcome)
 
 small : (c : tie.After-known-told) → (c .before .r .given .0 .1 .1 .0 ≤ 5) × (c .before .r .given .0 .1 .1 .1 .0 ≤ 512)
 small c =
@@ -43,7 +43,8 @@ returns : tie.Need-returns
 returns c =
     let told = c .before in
     let refused = rw (told .enum-told .given .1) at (told .before .before .read .ensures) in
-    c .read-refusal .ensures ∙ rw (told .enum-told .given .1) (omega (arith, ap packedReading refused))
+    let number = rw (told .enum-told .given .1) at (c .read-refusal .ensures .0) in
+    read-packed _ _ _ (omega (arith, number)) (omega (arith, number, c .read-refusal .ensures .1)) (omega arith) (omega arith) (omega arith) refused
 
 cast-result : tie.Need-cast-result
 cast-result c = search needs
@@ -73,7 +74,9 @@ add-result-3 : tie.Need-add-result-3
 add-result-3 c = omega (arith, small c)
 
 returns-2 : tie.Need-returns-2
-returns-2 c = omega (arith, ap packedReading (command c))
+returns-2 c =
+    read-packed _ _ _ (omega arith) (omega arith) (omega arith) (omega arith) (omega (arith, small c))
+    (rw (c .before .r .given .1) at (c .before .before .before .read .ensures))
 
 pub vermolgas-read-spec : {M : Type 1} → statement M
 vermolgas-read-spec =

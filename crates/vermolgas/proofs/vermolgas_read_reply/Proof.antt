@@ -1,23 +1,23 @@
 -- Status and size are packed side by side, and neither is large; a refusal has nothing beside its number.
 use Prim.Native.Nat.{_≤_}
-use mathlib.Core.Path.{_≡_, sym, ap, _∙_, subst}
+use mathlib.Core.Path.{_≡_, refl, sym, _∙_, subst}
 use mathlib.Core.Bool.{not}
 use native.Mathlib.Omega.{arith}
 use lib.Dec.{eqb}
 use borrow.Author.Needs.{needs}
 use Rattle.reply.specs.Reading.{ReplyAnswer, replyReading}
 use Rattle.reply.proofs.Within.{reply-within}
-use Rattle.vermolgas.specs.Packed.{packedReply}
+use Rattle.vermolgas.proofs.Packs.{reply-packed, reply-refused}
 use Rattle.vermolgas.proofs.vermolgas_read_reply.Statement.{statement}
 use Rattle.vermolgas.proofs.vermolgas_read_reply.Tie as tie
 
 -- What the pattern took apart is what reply reading gives.
 found : (c : tie.After-known-told)
-    → record { number = 0; status = c .before .r .given .0 .0; place = 3; size = c .before .r .given .0 .1 .0 }
+    → record { number = 0; status = c .before .r .given .0 .0; place = c .before .r .given .0 .1 .0; size = c .before .r .given .0 .1 .1 .0 }
     ≡ replyReading (c .before .before .before .before .before .args .reply .now) (not (eqb (c .before .before .before .before .before .args .checksum) 0))
-found c = rw (c .before .r .given .1) at (c .before .before .before .read-reply .ensures)
+found c = rw (c .before .r .given .1) at (c .before .before .before .read-reply .ensures .outcome)
 
-small : (c : tie.After-known-told) → c .before .r .given .0 .1 .0 ≤ 512
+small : (c : tie.After-known-told) → c .before .r .given .0 .1 .1 .0 ≤ 512
 small c =
     let args = c .before .before .before .before .before .args in
     subst (λ (a : ReplyAnswer). a .size ≤ 512) (sym (found c)) (reply-within (args .reply .now) (not (eqb (args .checksum) 0)))
@@ -38,7 +38,8 @@ returns : tie.Need-returns
 returns c =
     let told = c .before in
     let refused = rw (told .enum-told .given .1) at (told .before .before .read-reply .ensures) in
-    c .reply-refusal .ensures ∙ rw (told .enum-told .given .1) (omega (arith, ap packedReply refused))
+    let number = rw (told .enum-told .given .1) at (c .reply-refusal .ensures .0) in
+    reply-refused _ _ _ (c .reply-refusal .ensures .1) (rw (← number) at refused)
 
 cast-result : tie.Need-cast-result
 cast-result c = search needs
@@ -53,7 +54,9 @@ add-result : tie.Need-add-result
 add-result c = omega (arith, small c)
 
 returns-2 : tie.Need-returns-2
-returns-2 c = omega (arith, ap packedReply (found c))
+returns-2 c =
+    let read = rw (c .before .r .given .1) at (c .before .before .before .read-reply .ensures) in
+    reply-packed _ _ _ _ _ (omega arith) (omega arith) (rw (read .content refl .1) at read)
 
 pub vermolgas-read-reply-spec : {M : Type 1} → statement M
 vermolgas-read-reply-spec =

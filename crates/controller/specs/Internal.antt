@@ -1,4 +1,5 @@
--- What is known of a command once it has been accepted: its data was judged right, its start and count fit, and the block is in range.
+-- What only private functions of the front end need, and no rule: what is known of a command once it has been accepted, its data judged right,
+-- its start and count fitting, and the block in range.
 use Prim.Native.Nat.{ℕ, _+_, _*_, _≤_}
 use mathlib.Core.Path.{_≡_}
 use mathlib.Core.Bool.{true, false}

@@ -12,18 +12,18 @@ use Rattle.wire.specs.First.{first}
 use Rattle.wire.specs.Buffers.{over}
 use Rattle.opcode.specs.Options.{isRead}
 use Rattle.opcode.specs.Judgement.{judgement}
-use Rattle.opcode.proofs.Accepts.Tests.{Numbered, told}
+use Rattle.wire.proofs.Tests.{Numbered, told}
 use Rattle.packet.specs.Frame.{headerOf, opcodeOf, dataOf}
 use Rattle.packet.specs.Reading.{Answer, refusals, reading}
 use Rattle.packet.specs.Points.{startOf, countOf, acceptedAt, mapAfter}
 use Rattle.packet.proofs.Frames.{reading-number, accepted}
 use Rattle.controller.specs.State.{State, state, stopped}
 use Rattle.controller.specs.Commands.{points, runsPast, written, blockAfter}
 use Rattle.controller.specs.Step.{Out, out, reads, readAndPlaced, emptyReply, step}
 use Rattle.controller.proofs.Steps.{decision-number, step-written}
 use Rattle.controller.proofs.Demands.{decided}
 use Rattle.controller.proofs.Changes.{Way, way}
-use Rattle.delivery.specs.Delivery.{Writes, SameWrite}
+use Rattle.controller.specs.Demands.{Writes34, SameWrite}
 
 -- No test of two lists holds exactly if none of each does.
 none-both : (ts us : List (ℕ × Bool)) → Numbered ts → (first (ts ++ us) ≡ 0) ↔ ((first ts ≡ 0) × (first us ≡ 0))
@@ -100,12 +100,12 @@ module _ (p : List ℕ) (s : State) (reply : List ℕ) (runs : stopped s reply �
       let none = decision-number p (s .block) ∙ placed p (s .block) (j .opcode) (j .write) .1 j in
       step-written p s reply runs none (ne-eqb (isRead (headerOf p)) 1 (omega arith)) ∙ rw (j .opcode, a)
 
-  write-accepted : Writes p s reply → acceptedAt (points (s .block)) p ≡ true
+  write-accepted : Writes34 p (step p s reply) → acceptedAt (points (s .block)) p ≡ true
   write-accepted w =
       let none = decided p s reply (w .0) .1 in
       judges (points (s .block)) p (placed p (s .block) (w .1) (w .2) .0 (sym (decision-number p (s .block)) ∙ none))
 
-  pub same-write : SameWrite p s reply
+  pub same-write : SameWrite p s (step p s reply)
   unfolding mapAfter written
   same-write =
       record {

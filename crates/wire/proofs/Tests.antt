@@ -1,11 +1,11 @@
 -- Tests joined by `&&` and `||`, and lists of (number, test): no test of a list holds exactly if the number given is 0.
 use Prim.Native.Nat.{ℕ, _<_}
 use mathlib.Core.Path.{_≡_, refl}
-use mathlib.Core.Bool.{Bool, true, false, _&&_, _||_}
+use mathlib.Core.Bool.{Bool, true, false, not, _&&_, _||_}
 use mathlib.Core.List.{List, [], _∷_}
 use native.Mathlib.Omega.{arith}
 use borrow.Author.Tests.{not-true, not-false, ltb-true, ltb-false, leb-true, leb-false, eqb-true}
 use Rattle.wire.specs.First.{first}
 
 pub and-left : (a b : Bool) → a && b ≡ true → a ≡ true
 and-left true b e = refl
@@ -22,6 +22,15 @@ or-left false b e = refl
 pub or-right : (a b : Bool) → a || b ≡ false → b ≡ false
 or-right true b e = cc
 or-right false b e = e
+
+-- A test that holds only where an option is set and two numbers differ.
+pub option-true : (a b : Bool) → (a && not b) ≡ false → a ≡ true → b ≡ true
+option-true true b h e = not-false b h
+option-true false b h e = cc
+
+pub option-false : (a b : Bool) → (a ≡ true → b ≡ true) → (a && not b) ≡ false
+option-false true b h = rw h refl
+option-false false b h = refl
 
 -- What a joined test tells of its parts, and a part of its numbers: `search told` finds it.
 pub ruleset told = (not-true, not-false, and-left, and-right, or-left, or-right, ltb-true, ltb-false, leb-true, leb-false, eqb-true)

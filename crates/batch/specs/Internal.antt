@@ -1,0 +1,30 @@
+-- What only private functions of this crate need, and no rule: a batch under writing, which holds the caller's buffer and how much of it is filled.
+use Prim.Native.Nat.{ℕ, _+_, _*_}
+use mathlib.Core.List.{List, _++_}
+use lib.ListN.{take, drop}
+use lib.Seq.{sets}
+use denote.Ref.{now, at-last}
+use Rattle.wire.specs.Numbers.{wordBytes}
+use Rattle.wire.specs.Tables.{bytes}
+use Rattle.batch.specs.declared.Batch.{Batch}
+
+-- What a packet begins with: header 14h and opcode 34h, length, start.
+abbrev pub headOf : ℕ → ℕ → List ℕ
+headOf start count = wordBytes 0x3414 ++ wordBytes (2 + 4 * count) ++ wordBytes start
+
+-- The same buffer with a packet's head behind what was filled.
+abbrev pub headed : Batch → ℕ → ℕ → Batch
+headed b start count =
+    record { buffer = at-last (b .buffer) (sets (now (b .buffer)) (b .filled) (headOf start count)); filled = b .filled + 6 }
+
+-- The bytes of a map's points, count of them from start on.
+abbrev pub pointBytes : List ℕ → ℕ → ℕ → List ℕ
+pointBytes map start count = bytes (take (2 * count) (drop (2 * start) map))
+
+-- The same buffer with such points behind what was filled.
+abbrev pub pointed : Batch → List ℕ → ℕ → ℕ → Batch
+pointed b map start count =
+    record {
+      buffer = at-last (b .buffer) (sets (now (b .buffer)) (b .filled) (pointBytes map start count));
+      filled = b .filled + 4 * count;
+    }

@@ -1,0 +1,22 @@
+-- Each theorem of the list, where it is proved.
+use Rattle.controller.proofs.Demands.{runs, right-running}
+use Rattle.controller.proofs.Live.{live-kept}
+use Rattle.upload.proofs.Least.{room-packet}
+use Rattle.upload.proofs.Bytes.{batch-bytes}
+use Rattle.upload.proofs.Examples.{examples}
+use Rattle.delivery.proofs.Sent.{delivered}
+use Rattle.delivery.proofs.theorems.Statement.{statement}
+use Rattle.delivery.proofs.theorems.Tie as tie
+
+returns : tie.Need-returns
+returns c =
+    record {
+      live-kept = live-kept;
+      delivered = λ n held wanted h w s reply l. delivered n held wanted h w s reply (runs s reply (right-running l));
+      smallest-count = room-packet;
+      batch-bytes = λ n held wanted small h w. batch-bytes n small wanted w held h;
+      examples = examples;
+    }
+
+pub theorems-spec : {M : Type 1} → statement M
+theorems-spec = tie.close (tie.spec returns)

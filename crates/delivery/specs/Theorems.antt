@@ -1,0 +1,27 @@
+-- What holds over several packets, or of planning apart from any call, so that no one contract can carry it. The crate is proved only with every
+-- line of this list.
+use Prim.Native.Nat.{ℕ, suc, _*_, _≤_, _<_}
+use mathlib.Core.Path.{_≡_}
+use mathlib.Core.Bool.{Bool}
+use mathlib.Core.List.{List}
+use lib.ListN.{take, getD}
+use Rattle.controller.specs.State.{State}
+use Rattle.controller.specs.Demands.{LentRight, stagedPoints, LiveKept}
+use Rattle.controller.specs.Calls.{Call, stateAfterAll, NoneApplies}
+use Rattle.upload.specs.Cost.{rooms, more, SmallestCount}
+use Rattle.upload.specs.Plan.{batchOf}
+use Rattle.upload.specs.Judge.{MapOf}
+use Rattle.upload.specs.Examples.{Examples}
+use Rattle.delivery.specs.Delivery.{Delivered}
+
+pub record Theorems : Type 0 where
+  -- Packets none of which is an accepted apply leave the live side, whatever they are.
+  pub live-kept : (xs : List Call) (s : State) → NoneApplies xs s → LiveKept s (stateAfterAll xs s)
+  -- A planned upload, sent to a front end whose shape has n points and whose staged map is held, is accepted packet by packet and leaves wanted.
+  pub delivered : (n : ℕ) (held wanted : List ℕ) → MapOf n held → MapOf n wanted → (s : State) (reply : List ℕ) → LentRight s reply
+      → stagedPoints (s .block) ≡ n → take (2 * n) (s .staged) ≡ held → Delivered n held wanted s reply
+  -- The plan begins at a point that differs with the smallest of the counts that cost least.
+  pub smallest-count : (ds : List Bool) → SmallestCount ds (suc (more 125 (rooms ds)))
+  -- Every number of a batch is a byte.
+  pub batch-bytes : (n : ℕ) (held wanted : List ℕ) → n ≤ 65536 → MapOf n held → MapOf n wanted → (k : ℕ) → getD (batchOf held wanted) k 0 < 256
+  pub examples : Examples
