@@ -15,7 +15,8 @@
  * vermolgas_packet alone still writes its reply, and answers its length. The macros below take an answer apart; each
  * uses its argument once.
  *
- * docs/INTERFACE.md has the commands and what each may carry, docs/LAYOUT.md the settings block.
+ * docs/INTERFACE.md has the commands and what each may carry, docs/LAYOUT.md the settings block, docs/RULES.md the
+ * rules.
  */
 #ifndef VERMOLGAS_H
 #define VERMOLGAS_H
@@ -30,18 +31,18 @@ extern "C" {
 /* Refusals, in the order in which vermolgas_packet tries them. */
 enum vermolgas_refusal {
     VERMOLGAS_ACCEPTED = 0,
-    VERMOLGAS_REFUSED_LENT = 1,           /* a lent length is wrong, or a setting is out of range */
-    VERMOLGAS_REFUSED_TOO_SHORT = 2,      /* shorter than the fields that the header announces, or empty */
+    VERMOLGAS_REFUSED_LENT = 1,           /* wrong length of what is lent, or a setting out of range */
+    VERMOLGAS_REFUSED_TOO_SHORT = 2,      /* fewer bytes than the header announces, or none */
     VERMOLGAS_REFUSED_TOO_LONG = 3,       /* over 512 bytes */
-    VERMOLGAS_REFUSED_LENGTH = 4,         /* the length field differs from the data bytes there */
-    VERMOLGAS_REFUSED_CHECKSUM = 5,       /* the checksum differs */
-    VERMOLGAS_REFUSED_DESTINATION = 6,    /* the destination isn't 4 */
-    VERMOLGAS_REFUSED_OPCODE = 7,         /* the opcode isn't carried */
-    VERMOLGAS_REFUSED_LENGTH_MISSING = 8, /* a write of 2Bh, 34h, 35h or 38h has no length field */
-    VERMOLGAS_REFUSED_SIZE = 9,           /* the data size is wrong, or a gain count differs from its words */
-    VERMOLGAS_REFUSED_RANGE = 10,         /* a value is out of range or reserved */
+    VERMOLGAS_REFUSED_LENGTH = 4,         /* the length field is not the number of data bytes */
+    VERMOLGAS_REFUSED_CHECKSUM = 5,       /* the checksum is wrong */
+    VERMOLGAS_REFUSED_DESTINATION = 6,    /* the destination is not 4 */
+    VERMOLGAS_REFUSED_OPCODE = 7,         /* the opcode is not carried */
+    VERMOLGAS_REFUSED_LENGTH_MISSING = 8, /* 2Bh, 34h, 35h or 38h is written without a length field */
+    VERMOLGAS_REFUSED_SIZE = 9,           /* wrong size of the data, or a gain count not that of its words */
+    VERMOLGAS_REFUSED_RANGE = 10,         /* some value out of its range, or reserved */
     VERMOLGAS_REFUSED_NOT_CARRIED = 11,   /* merge mode, compressed gains */
-    VERMOLGAS_REFUSED_PAST_TABLE = 12     /* a start and count run past their table */
+    VERMOLGAS_REFUSED_PAST_TABLE = 12     /* start + count past the end of their table */
 };
 
 /* The longest packet and the longest reply, in bytes. */
@@ -71,8 +72,8 @@ enum vermolgas_refusal {
 #define VERMOLGAS_STATUS(answer) ((unsigned)((uint64_t)(answer) & 0xFF))
 
 /* Puts a controller into its state after reset: zeros everywhere, but each gain 4096 (1.0), the warp map's shape
- * 62 x 32 in mode 0, staged and live, control point lists 0, 1, 2 and so on, the smooth table's shape 3 x 3, and PWM
- * frequencies 20. Every byte of the four buffers is written, whatever it was.
+ * 62 x 32 and mode 0 on both sides, staged and live, control point lists counting from 0, the smooth table's shape
+ * 3 x 3, and PWM frequencies 20. Every byte of the four buffers is written, whatever it was.
  *
  * The lengths are VERMOLGAS_BLOCK_BYTES, VERMOLGAS_MAP_BYTES twice and VERMOLGAS_GAINS_BYTES, exactly. Any other is
  * refusal 1, and no byte is changed.
@@ -89,9 +90,9 @@ uint64_t vermolgas_reset(uint8_t *block, size_t block_length, uint8_t *staged, s
  * An accepted write changes what its command names and nothing else. An accepted read and every refusal change no
  * byte of the block and of the tables. Block bytes without a meaning, 865 to 1023, stay as they are.
  *
- * A reply is written, at the start of the reply buffer, exactly if the packet has a first byte, its bit 6 or bit 7 is
- * set, and the refusal isn't 1. It is the status, the length of the data in two bytes, the data of an accepted read,
- * and a checksum if the packet's bit 5 is set; vermolgas_read_reply reads it back. The buffer past the reply is
+ * There is a reply, at the start of the reply buffer, exactly if the packet is not empty, bit 6 or bit 7 of its first
+ * byte is set, and the refusal is not 1. It is the status, the length of the data in two bytes, the data of an accepted read,
+ * and a checksum if bit 5 of the packet is set; vermolgas_read_reply reads it back. The buffer past the reply is
  * unchanged, and all of it if no reply is written. The answer has the reply's length, 0 for none, on a refusal too.
  */
 uint64_t vermolgas_packet(const uint8_t *packet, size_t packet_length, uint8_t *block, size_t block_length,
@@ -144,8 +145,8 @@ uint64_t vermolgas_read_reply(const uint8_t *reply, size_t reply_length, uint8_t
  * refusal no byte is changed. held and wanted may be the same bytes.
  *
  * The plan is a list of packets, each by its start and its count of points, 1 to 126. Starts rise, and no two packets
- * overlap. Of all such lists of the fewest bytes it is the one whose first count is smallest, then the second, and so
- * on. Equal maps need no packet.
+ * overlap. Of all such lists of the fewest bytes it is the one with the smallest first count, then second, and so on.
+ * Equal maps need no packet.
  *
  * The batch is the packets back to back, each of 6 + 4 x count bytes: header 14h, opcode 34h, length, start and the
  * points as wanted. A controller that holds the points held, and whose shape has N points, accepts each of them and

@@ -197,7 +197,7 @@ static struct buffer command(size_t index, uint8_t options)
     return made;
 }
 
-/* 35h with its two lists, 0, 1, 2 and so on. */
+/* 35h with its two lists, which count from 0. */
 static struct buffer lists(void)
 {
     uint8_t written[189] = {1};

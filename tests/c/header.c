@@ -1,4 +1,4 @@
-/* The header as a C11 host uses it: bench packets of document 01 through the entries and macros. */
+/* The header as a C11 host uses it: bench packets (docs/RULES.md, rule 8.1) through the entries and macros. */
 #include "vermolgas.h"
 
 #include <stdio.h>
@@ -216,7 +216,7 @@ static void plan_uploads(void)
     CHECK(plan(5) == VERMOLGAS_ACCEPTED);
     CHECK(upload.plan[0] == 0xAA && upload.batch[0] == 0xAA && room(0) == 0 && room(1984) == 0);
 
-    /* Points 0 and 2 differ: one packet, 18 bytes. */
+    /* Points 0 and 2: one packet of 18 bytes. */
     upload.wanted[0] = 1;
     upload.wanted[4 * 2 + 3] = 2;
     uint64_t answer = plan(5);

@@ -1,4 +1,4 @@
--- What only private functions of this crate need, and no rule: a batch under writing, which holds the caller's buffer and how much of it is filled.
+-- What only private functions of this crate need. Rule 6.6: a batch under writing is the lent buffer and how far it is filled.
 use Prim.Native.Nat.{ℕ, _+_, _*_}
 use mathlib.Core.List.{List, _++_}
 use lib.ListN.{take, drop}
@@ -8,7 +8,7 @@ use Rattle.wire.specs.Numbers.{wordBytes}
 use Rattle.wire.specs.Tables.{bytes}
 use Rattle.batch.specs.declared.Batch.{Batch}
 
--- What a packet begins with: header 14h and opcode 34h, length, start.
+-- Rule 6.3: what a packet begins with: header 14h and opcode 34h, length, start.
 abbrev pub headOf : ℕ → ℕ → List ℕ
 headOf start count = wordBytes 0x3414 ++ wordBytes (2 + 4 * count) ++ wordBytes start
 

@@ -10,7 +10,7 @@ ghost use Rattle.upload.specs.Parts.{part};
 ghost use Rattle.batch.specs.Writing.{Lies};
 ghost use Rattle.batch.specs.Internal.{headOf, headed, pointBytes, pointed};
 
-// The caller's buffer and how much of it is filled.
+// Rule 6.6: the caller's buffer, and how far it is filled.
 struct Batch<'a> {
     pub buffer: &'a mut [u8],
     pub filled: usize,

@@ -1,4 +1,5 @@
-// Reads each bench packet of document 01, says what it found, and makes the packet again from its reading; then plans the uploads of its bench maps.
+// Reads each bench packet of rule 8.1, says what it found, and makes the packet again from its reading; then plans the uploads of
+// the bench maps.
 use packet::Reading;
 ghost use Prim.Native.Nat.{_<_};
 ghost use lib.ListN.{length};

@@ -1,3 +1,3 @@
--- Document 01's bench packets and plans marked *, in the paper's order.
+-- Rule 8.1: the bench packets and plans with a star, in its order.
 pub mod Table
 pub mod Holds

@@ -1,6 +1,6 @@
--- Document 01, "Bench packets (hex)": "Proved together as a single table with a single statement: those marked *. Each starts from reset
--- unless said." Each row of a packet: the packets before, the packet, the status, all bytes of the reply, and the whole state after. Each row
--- of a plan: the number of points, held and wanted, the whole answer, and all of the three lists that planning leaves.
+-- Rule 8.1: the bench packets and plans with a star, one table for one statement. Each row of a packet: the packets before it
+-- from reset on, the packet, the status, all bytes of the reply, and the whole state after. Each row of a plan: the number of
+-- points, held and wanted, the whole answer, and all of the three lists that planning leaves.
 use Prim.Native.Nat.{ℕ, _+_}
 use mathlib.Core.List.{List, [], _∷_}
 use lib.ListN.{set, replicate}
@@ -83,6 +83,7 @@ row packet status reply after = packets (record { before = []; packet = packet; 
 abbrev pub refused : List ℕ → ℕ → BenchRow
 refused packet number = row packet number [] resetState
 
+-- Rule 8.1.
 abbrev pub rows : List BenchRow
 rows =
     -- * empty: 2. * `24 11`: 2.
@@ -115,7 +116,7 @@ rows =
     ∷ refused (0x14 ∷ 0x34 ∷ 0x06 ∷ 0x00 ∷ 0xC0 ∷ 0x07 ∷ 0x01 ∷ 0x00 ∷ 0x02 ∷ 0x00 ∷ []) 12
     -- * `14 2B 08 00 00 01 01 00 DF 07 00 14`: red gain 2015 becomes 5120.
     ∷ row (0x14 ∷ 0x2B ∷ 0x08 ∷ 0x00 ∷ 0x00 ∷ 0x01 ∷ 0x01 ∷ 0x00 ∷ 0xDF ∷ 0x07 ∷ 0x00 ∷ 0x14 ∷ []) 0 [] (withGain 2015 5120)
-    -- * Points 0 and 3 differ: two, 20 bytes.
+    -- * Points 0 and 3: two packets of 10 bytes each.
     ∷ plans
     (record {
       n = 1984;

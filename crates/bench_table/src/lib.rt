@@ -1,4 +1,4 @@
-// Document 01's starred bench packets and plans, as one table proved by one computed test.
+// The starred bench packets and plans of rule 8.1, as one table proved by one computed test.
 ghost use Rattle.bench_table.specs.Table.{rows};
 ghost use Rattle.bench_table.specs.Holds.{EachHolds};
 

@@ -14,7 +14,7 @@ unfoldable pub stateAfterAll : List Call → State → State
 stateAfterAll [] s = s
 stateAfterAll (x ∷ xs) s = stateAfterAll xs (step (x .packet) s (x .reply) .state)
 
--- No packet of the list applies, each judged on the state that it gets.
+-- Rule 5.6: no packet of the list applies, each judged on the state that it gets.
 pub data NoneApplies : List Call → State → Type 0 where
   none : {s : State} → NoneApplies [] s
   next : {x : Call} {xs : List Call} {s : State}

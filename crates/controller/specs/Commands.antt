@@ -1,4 +1,4 @@
--- What each command does to a state, and what it returns, from its data; each a function of its own part of the state.
+-- Rules 5.1 to 5.8: what each command does to a state, and what it returns, from its data; each a function of its own part of it.
 use Prim.Native.Nat.{ℕ, _+_, _-_, _*_}
 use mathlib.Core.Bool.{Bool, false, cond}
 use mathlib.Core.List.{List, [], _∷_, _++_}
@@ -11,13 +11,13 @@ use Rattle.packet.specs.Points.{writePoints, startOf, pointsOf, countOf}
 use Rattle.settings.specs.Layout.{stored, returned, stagedShape, enable, liveShape, smoothTable, shapeSize, modeAt, columnsAt, rowsAt}
 use Rattle.controller.specs.State.{State}
 
--- ---- 2Bh gains: colour 1 red, 2 green, 3 blue, a third of the table each.
+-- ---- 2Bh gains, rule 5.8: colour 1 red, 2 green, 3 blue, a third of the table each.
 
--- "start + count ≤ 2,016": gains of one colour.
+-- Rule 5.8: the gains of one colour.
 abbrev pub third : ℕ
 third = 2016
 
--- Of a write's data: compression, colour, count, start, words.
+-- Rule 5.8, of a write's data: compression, colour, count, start, words.
 abbrev pub gainsWords : List ℕ → List ℕ
 gainsWords d = words (drop 6 d)
 
@@ -27,7 +27,7 @@ colourPlace colour start = third * (colour - 1) + start
 abbrev pub gainsInto : List ℕ → ℕ → List ℕ → List ℕ
 gainsInto gains place ws = paste gains place ws (length ws)
 
--- "colour (0 all, 1 red, 2 green, 3 blue ..)": colour 0 writes the same words into all three thirds.
+-- Rule 5.8: colour 0 writes the same words into all three thirds.
 unfoldable pub writeGains : List ℕ → List ℕ → List ℕ
 writeGains d gains =
     cond (eqb (byteAt d 1) 0)
@@ -37,48 +37,54 @@ writeGains d gains =
     (gainsWords d))
     (gainsInto gains (colourPlace (byteAt d 1) (wordAt d 4)) (gainsWords d))
 
--- "A read (house) sends colour 1-3, then 16-bit start and count 1-254, and returns the words."
+-- Rule 5.8: a read has colour, start and count, and returns so many words.
 unfoldable pub readGains : List ℕ → List ℕ → List ℕ
 readGains d gains = bytes (take (wordAt d 3) (drop (colourPlace (byteAt d 0) (wordAt d 1)) gains))
 
--- ---- 34h map: "Read: start, count 1-127 (16-bit), returning staged points."
+-- ---- 34h map, rule 5.4: a read has start and count, and returns so many staged points.
 
+-- Rule 5.4.
 unfoldable pub readPoints : List ℕ → List ℕ → List ℕ
 readPoints d staged = bytes (take (2 * wordAt d 2) (drop (2 * wordAt d 0) staged))
 
--- ---- 35h control points
+-- ---- 35h control points, rule 5.5
 
--- "Mode 0 keeps the two lists stored." "Mode 1: .. the shape is 62 × 32."
+-- Rule 5.5: in mode 0 the stored lists stay; mode 1 carries both, and its shape is always 62 × 32.
 unfoldable pub shapeBytes : List ℕ → List ℕ
 shapeBytes d = cond (eqb (byteAt d 0) 1) ((1 ∷ []) ++ wordBytes 62 ++ wordBytes 32 ++ drop 1 d) d
 
+-- Rule 5.5.
 unfoldable pub writeShape : List ℕ → List ℕ → List ℕ
 writeShape d block = paste block stagedShape (shapeBytes d) (length (shapeBytes d))
 
--- "A read sends nothing and returns the written form."
+-- Rule 5.5: a read returns what a write of the stored mode sends.
 unfoldable pub readShape : List ℕ → List ℕ
 readShape block =
     cond (eqb (modeAt block stagedShape) 1)
     (byteAt block stagedShape ∷ take 188 (drop (stagedShape + 5) block))
     (take 5 (drop stagedShape block))
 
--- ---- 36h apply: "Write 1: the shape, mode, lists and all 1,984 staged points become live, enable is 1. Write 0: enable is 0, the live
--- side stays."
+-- ---- 36h apply, rule 5.6: 1 copies shape, mode, lists and points from the staged side to the live one and sets enable; 0 clears
+-- enable alone.
 
+-- Rule 5.6, in the block.
 unfoldable pub applyBlock : List ℕ → List ℕ → List ℕ
 applyBlock d block =
     cond (eqb (byteAt d 0) 1)
     (paste (paste block enable (1 ∷ []) 1) liveShape (drop stagedShape block) shapeSize)
     (paste block enable (0 ∷ []) 1)
 
+-- Rule 5.6, of the points.
 unfoldable pub applyLive : List ℕ → List ℕ → List ℕ → List ℕ
 applyLive d staged live = cond (eqb (byteAt d 0) 1) staged live
 
--- ---- 38h smooth table: "stored points past these stay. A read returns the same."
+-- ---- 38h smooth table, rule 5.7: points behind those written stay as stored; a read returns what a write sends.
 
+-- Rule 5.7.
 unfoldable pub writeSmooth : List ℕ → List ℕ → List ℕ
 writeSmooth d block = paste block smoothTable d (length d)
 
+-- Rule 5.7.
 unfoldable pub readSmooth : List ℕ → List ℕ
 readSmooth block =
     take (2 + 4 * (byteAt block smoothTable * byteAt block (smoothTable + 1))) (drop smoothTable block)
@@ -92,7 +98,7 @@ blockAfter op d block =
     (cond (eqb op 0x35) (writeShape d block)
     (cond (eqb op 0x36) (applyBlock d block) (cond (eqb op 0x38) (writeSmooth d block) (stored op d block)))))
 
--- The state after an accepted write. "Staged points keep their index": of 35h only the block changes.
+-- The state after an accepted write. Of 35h only the block changes, so that staged points keep their index (rule 5.5).
 unfoldable pub written : ℕ → List ℕ → State → State
 written op d s =
     record {
@@ -102,22 +108,23 @@ written op d s =
       gains = cond (eqb op 0x2B) (writeGains d (s .gains)) (s .gains);
     }
 
--- The data of an accepted read's reply: settings of the block. 36h returns enable, as the fixed commands return what they store.
+-- The data of an accepted read's reply: settings of the block. 36h returns enable (rule 5.6), as the fixed commands return what
+-- they store.
 unfoldable pub blockBack : ℕ → List ℕ → List ℕ → List ℕ
 blockBack op d block = cond (eqb op 0x35) (readShape block) (cond (eqb op 0x38) (readSmooth block) (returned op d block))
 
--- The data of any accepted read's reply.
+-- Rule 3.3: the data of any accepted read's reply.
 unfoldable pub dataBack : ℕ → List ℕ → State → List ℕ
 dataBack op d s =
     cond (eqb op 0x2B) (readGains d (s .gains)) (cond (eqb op 0x34) (readPoints d (s .staged)) (blockBack op d (s .block)))
 
--- ---- Refusal 12: "a start and count run past their table". 34h: "Both need start + count ≤ columns × rows as staged." 2Bh: "start +
--- count ≤ 2,016".
+-- ---- Refusal 12, rule 4.3: start + count goes past the staged shape's points (rule 5.4) or a colour's gains (rule 5.8).
 
--- "004 says 1,984 and, for reading, 1,952; 1,984 decides": the bound is the shape's, at most 62 × 32.
+-- Rule 5.4: the bound is the shape's, at most 62 × 32.
 abbrev pub points : List ℕ → ℕ
 points block = columnsAt block stagedShape * rowsAt block stagedShape
 
+-- Rule 4.3.
 unfoldable pub runsPast : ℕ → Bool → List ℕ → List ℕ → Bool
 runsPast op reads d block =
     cond (eqb op 0x34) (ltb (points block) (startOf d + cond reads (wordAt d 2) (countOf d)))

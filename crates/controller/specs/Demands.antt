@@ -26,14 +26,14 @@ use Rattle.controller.specs.Step.{stepRefusals, emptyReply, replyData, O
 
 -- ---- What is lent.
 
--- The lengths of block and tables: 1,024 bytes, two maps of 1,984 points, and three times 2,016 gains.
+-- Rule 1.3: the lengths of block and tables: 1,024 bytes, two maps of 1,984 points, and three times 2,016 gains.
 pub record StateLent (s : State) : Type 0 where
   pub block : length (s .block) ≡ 1024
   pub staged : length (s .staged) ≡ 3968
   pub live : length (s .live) ≡ 3968
   pub gains : length (s .gains) ≡ 6048
 
--- What refusal 1 asks for: these lengths, room for any reply, and every setting in its range.
+-- Rule 4.1, 1: what refusal 1 asks for: these lengths, room for any reply, and every setting in its range.
 pub record LentRight (s : State) (reply : List ℕ) : Type 0 where
   pub tables : StateLent s
   pub room : 512 ≤ length reply
@@ -41,49 +41,49 @@ pub record LentRight (s : State) (reply : List ℕ) : Type 0 where
 
 -- ---- Start and count.
 
--- The staged shape's points: columns × rows, as they stand in the block.
+-- Rule 5.4: the staged shape's points: columns × rows, as they stand in the block.
 abbrev pub stagedPoints : List ℕ → ℕ
 stagedPoints block = two (getD block 9 0) (getD block 10 0) * two (getD block 11 0) (getD block 12 0)
 
--- The start is a packet's first number; its points are what stands behind it, four bytes each.
+-- Rule 5.4: the start is a packet's first number; its points are what stands behind it, four bytes each.
 abbrev pub pointsEnd : List ℕ → ℕ
 pointsEnd p = wordAt (dataOf p) 0 + (length (dataOf p) - 2) / 4
 
--- A start and a count lie within their table: 34h within the staged shape's points, 2Bh within a colour's gains.
+-- Rules 5.4 and 5.8: start and count lie within their table: 34h within the staged shape's points, 2Bh within a colour's gains.
 pub record Placed (p : List ℕ) (block : List ℕ) : Type 0 where
   pub points-written : opcodeOf p ≡ 0x34 → isRead (headerOf p) ≡ 0 → pointsEnd p ≤ stagedPoints block
   pub points-read : opcodeOf p ≡ 0x34 → isRead (headerOf p) ≡ 1 → wordAt (dataOf p) 0 + wordAt (dataOf p) 2 ≤ stagedPoints block
   pub gains-written : opcodeOf p ≡ 0x2B → isRead (headerOf p) ≡ 0 → wordAt (dataOf p) 4 + wordAt (dataOf p) 2 ≤ 2016
   pub gains-read : opcodeOf p ≡ 0x2B → isRead (headerOf p) ≡ 1 → wordAt (dataOf p) 1 + wordAt (dataOf p) 3 ≤ 2016
 
--- ---- Demand 1.
+-- ---- Demand 1: which number is given, and that a refusal changes nothing (rules 3.2 and 4.1 to 4.3).
 
 pub record Demand1 (p : List ℕ) (s : State) (reply : List ℕ) (o : Out) : Type 0 where
-  -- The number is the first that applies in the list of refusals: 1 exactly if what is lent is not right; else what reading gives; else 12, where a
-  -- start and count run past their table.
+  -- Rule 4.1: the number is the first that applies: 1 exactly if what is lent is not right; else what reading gives; else 12, where
+  -- start and count do not lie within their table.
   pub number : o .status ≡ first (stepRefusals p s reply)
   pub one : (o .status ≡ 1) ↔ (LentRight s reply → ⊥)
   pub from-reading : LentRight s reply → (reading p .number ≡ 0 → ⊥) → o .status ≡ reading p .number
   pub twelve : LentRight s reply → reading p .number ≡ 0 → (Placed p (s .block) → ⊥) → o .status ≡ 12
-  -- A refused packet changes no setting and no table point.
+  -- Rule 4.2: a refused packet changes no setting and no table point.
   pub unchanged : (o .status ≡ 0 → ⊥) → o .state ≡ s
-  -- Refusal 1 writes no reply; another writes one without data, if the packet asks for it.
+  -- Rules 3.2 and 3.3: refusal 1 writes no reply; another writes one without data, if the packet asks for it.
   pub stopped : (LentRight s reply → ⊥) → o ≡ out 1 0 s reply
   pub refused : LentRight s reply → (o .status ≡ 0 → ⊥)
       → o ≡ out (o .status) (length (emptyReply (o .status) p)) s (over (emptyReply (o .status) p) reply)
-  -- The reply buffer changes only where the reply is written.
+  -- Rule 4.2: the reply buffer changes only where the reply is written.
   pub behind : drop (o .size) (o .reply) ≡ drop (o .size) reply
 
--- ---- Demand 2.
+-- ---- Demand 2: which packets are accepted, and what they do (rules 5.1 to 5.9).
 
--- When a packet is accepted: what is lent is right, its frame is sound and meant for us, its data is allowed, and its start and count lie
--- within their table.
+-- Rules 2.1 to 5.9: when a packet is accepted: what is lent is right, its frame is sound and meant for us, its data is allowed, and its
+-- start and count lie within their table.
 pub record Accepted (p : List ℕ) (s : State) (reply : List ℕ) : Type 0 where
   pub lent : LentRight s reply
   pub taken : Taken p
   pub placed : Placed p (s .block)
 
--- Accepted exactly then; a write leaves the command's state, a read the state as it was and the command's data in the reply.
+-- Accepted exactly then; a write leaves the command's state, a read the state as it was and the command's data in the reply (3.3).
 pub record Demand2 (p : List ℕ) (s : State) (reply : List ℕ) (o : Out) : Type 0 where
   pub exactly : (o .status ≡ 0) ↔ Accepted p s reply
   pub writes : Accepted p s reply → isRead (headerOf p) ≡ 0
@@ -95,12 +95,13 @@ pub record Demand2 (p : List ℕ) (s : State) (reply : List ℕ) (o : Out) : Typ
 
 -- ---- The reply.
 
--- A packet asks for a reply by its first byte: a read, or bit 6.
+-- Rule 3.2: a packet asks for a reply by its first byte: a read, or bit 6.
 pub record Asks (p : List ℕ) : Type 0 where
   pub some : 1 ≤ length p
   pub bit : (isRead (headerOf p) ≡ 1) ⊎ (asksReply (headerOf p) ≡ 1)
 
--- One is written exactly if it is asked for and the number isn't 1, and it reads back as it was meant: its status, and its data.
+-- Rules 3.2 and 3.6: one is written exactly if it is asked for and the number is not 1, and it reads back as it was meant: its
+-- status, and its data.
 pub record Replied (p : List ℕ) (s : State) (o : Out) : Type 0 where
   pub asked : (1 ≤ o .size) ↔ (Asks p × (o .status ≡ 1 → ⊥))
   pub means : 1 ≤ o .size
@@ -109,7 +110,7 @@ pub record Replied (p : List ℕ) (s : State) (o : Out) : Type 0 where
   pub content : 1 ≤ o .size
       → take (length (replyData (o .status) p s)) (drop 3 (take (o .size) (o .reply))) ≡ replyData (o .status) p s
 
--- ---- 36h: the live side is the points, and the shape, mode and lists in the block; enable stands before it.
+-- ---- 36h, rule 5.6: the live side is the points, and the shape, mode and lists in the block; enable stands before it.
 
 -- A packet that is an accepted 36h write of so much.
 abbrev pub Sets36 : ℕ → List ℕ → Out → Type 0
@@ -118,28 +119,28 @@ Sets36 v p o = (o .status ≡ 0) × (opcodeOf p ≡ 0x36) × (isRead (headerOf p
 abbrev pub Applies : List ℕ → Out → Type 0
 Applies = Sets36 1
 
--- 1 makes the staged side of that moment live, and enable is 1.
+-- Rule 5.6: 1 makes the staged side of that moment live, and enable is 1.
 pub record Applied (s t : State) : Type 0 where
   pub points-live : t .live ≡ s .staged
   pub settings-live : take 193 (drop 202 (t .block)) ≡ take 193 (drop 8 (s .block))
   pub enabled : getD (t .block) 201 0 ≡ 1
 
--- 0 clears enable alone.
+-- Rule 5.6: 0 clears enable alone.
 abbrev pub cleared : State → State
 cleared s = state (set (s .block) 201 0) (s .staged) (s .live) (s .gains)
 
--- Any packet but a 1 leaves the live side.
+-- Rule 5.6: any packet but a 1 leaves the live side.
 pub record LiveKept (s t : State) : Type 0 where
   pub points-kept : s .live ≡ t .live
   pub settings-kept : take 193 (drop 202 (s .block)) ≡ take 193 (drop 202 (t .block))
 
--- ---- 34h: the judge of upload plans and the front end go by one write.
+-- ---- 34h, rules 5.4 and 7.1: the judge of lists and the front end go by one write.
 
 -- A packet that is an accepted 34h write.
 abbrev pub Writes34 : List ℕ → Out → Type 0
 Writes34 p o = (o .status ≡ 0) × (opcodeOf p ≡ 0x34) × (isRead (headerOf p) ≡ 0)
 
--- The staged points stand where the judge has a map of N points.
+-- Rules 5.4 and 7.1: the staged points stand where the judge has a map of N points.
 pub record SameWrite (p : List ℕ) (s : State) (o : Out) : Type 0 where
   pub staged : o .state .staged ≡ mapAfter (stagedPoints (s .block)) p (s .staged)
   pub accepted : (acceptedAt (stagedPoints (s .block)) p ≡ true) ↔ Writes34 p o
@@ -153,14 +154,14 @@ pub record Handled (p : List ℕ) (s : State) (reply : List ℕ) (o : Out) : Typ
   pub reply-meant : Replied p s o
   -- What was lent right is left so, each setting in its range.
   pub stays : LentRight s reply → LentRight (o .state) (o .reply)
-  -- Block bytes without a meaning are as they were.
+  -- Rule 1.4: block bytes without a meaning are as they were.
   pub tail : drop 865 (o .state .block) ≡ drop 865 (s .block)
   pub applied : Applies p o → Applied s (o .state)
   pub cleared-by : Sets36 0 p o → o .state ≡ cleared s
   pub live : (Applies p o → ⊥) → LiveKept s (o .state)
   pub same-write : LentRight s reply → SameWrite p s o
 
--- Reset: the whole block and all tables if the lengths are right, and what it leaves is in range; else 1, and all as it was.
+-- Rule 5.10: the whole block and all tables if the lengths are right, and what it leaves is in range; else 1, and all as it was.
 pub record Resets (s : State) (o : ResetOut) : Type 0 where
   pub outcome : o ≡ reset s
   pub exactly : (o .status ≡ 0) ↔ StateLent s

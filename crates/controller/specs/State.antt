@@ -1,4 +1,4 @@
--- What the caller lends the front end: "over settings, a staged warp map, a live warp map and a gain table".
+-- Rule 1.1: what the caller lends the front end: settings, staged and live map, gains.
 use Prim.Native.Nat.{ℕ}
 use mathlib.Core.Bool.{Bool, cond, not, _&&_, _||_}
 use mathlib.Core.List.{List}
@@ -18,7 +18,7 @@ pub record State : Type 0 where
 abbrev pub state : List ℕ → List ℕ → List ℕ → List ℕ → State
 state block staged live gains = record { block = block; staged = staged; live = live; gains = gains }
 
--- "Lent lengths: block 1,024; staged and live 3,968 16-bit numbers each (x, y in turn); gains 6,048 (red, green, blue)".
+-- Rule 1.3: the lengths that block and tables must have.
 abbrev pub lengthsRight : State → Bool
 lengthsRight s =
     eqb (length (s .block)) blockSize
@@ -26,20 +26,21 @@ lengthsRight s =
     && eqb (length (s .live)) mapSize
     && eqb (length (s .gains)) gainsSize
 
--- Refusal 1: "a lent length is wrong, or a setting, staged or live, lies outside its range"; "reply buffer 512 or more". "Table contents
--- aren't judged at entry."
+-- Rule 4.1, 1: a length is wrong, the reply buffer is under 512 bytes, or a setting is out of range. What tables hold is not judged
+-- (rule 1.4).
 unfoldable pub stopped : State → List ℕ → Bool
 stopped s reply = not (lengthsRight s && leb 512 (length reply)) || not (settingsRight (s .block))
 
--- "Reset: .. It writes the whole block and all tables".
+-- Rule 5.10: what reset leaves.
 abbrev pub resetState : State
 resetState = record { block = resetBlock; staged = resetMap; live = resetMap; gains = resetGains }
 
--- Reset: "a wrong length is refusal 1 and changes nothing".
+-- Rule 5.10: with a wrong length reset is refused with 1, and all stays.
 pub record ResetOut : Type 0 where
   pub status : ℕ
   pub state : State
 
+-- Rule 5.10.
 unfoldable pub reset : State → ResetOut
 reset s = cond (lengthsRight s) (record { status = 0; state = resetState }) (record { status = 1; state = s })
 

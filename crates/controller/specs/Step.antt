@@ -1,4 +1,4 @@
--- One packet on a state: "one packet in, one reply or none out".
+-- Rule 1.1: one packet on a state, and what it answers.
 use Prim.Native.Nat.{ℕ}
 use mathlib.Core.Bool.{Bool, cond, not, _&&_, _||_}
 use mathlib.Core.List.{List, [], _∷_, _++_}
@@ -16,43 +16,44 @@ use Rattle.controller.specs.Commands.{written, dataBack, runsPast}
 abbrev pub reads : List ℕ → Bool
 reads p = eqb (isRead (headerOf p)) 1
 
--- "Refusal 12 comes after reading."
+-- Rule 4.3: refusal 12 is tried when reading has found nothing.
 abbrev pub readAndPlaced : List ℕ → List ℕ → List (ℕ × Bool)
 readAndPlaced p block = refusals p ++ ((12, runsPast (opcodeOf p) (reads p) (dataOf p) block) ∷ [])
 
--- The decision on a packet that refusal 1 does not stop: refusals 2 to 12, or the command.
+-- Rule 4.1: the decision on a packet that refusal 1 does not stop: refusals 2 to 12, or the command.
 unfoldable pub decision : List ℕ → List ℕ → Answer
 decision p block = answered (first (readAndPlaced p block)) p
 
--- Refusals 1 to 12, tried in this order.
+-- Rule 4.1: refusals 1 to 12, tried in this order.
 abbrev pub stepRefusals : List ℕ → State → List ℕ → List (ℕ × Bool)
 stepRefusals p s reply = (1, stopped s reply) ∷ readAndPlaced p (s .block)
 
+-- Rule 4.1: the first that applies.
 unfoldable pub numberOf : List ℕ → State → List ℕ → ℕ
 numberOf p s reply = first (stepRefusals p s reply)
 
--- "Bit 6 of a read has no further effect." "A reply is written exactly if the packet has a first byte, bit 7 or bit 6 is set, and the refusal isn't 1."
+-- Rule 3.2: a reply needs a first byte in which bit 6 or bit 7 is set, and a number other than 1. For a read bit 6 changes nothing.
 abbrev pub answers : ℕ → List ℕ → Bool
 answers number p = ltb 0 (length p) && (reads p || eqb (asksReply (headerOf p)) 1) && not (eqb number 1)
 
--- "An accepted write and a refusal both carry no data."
+-- Rule 3.3: only an accepted read has data in its reply.
 abbrev pub replyData : ℕ → List ℕ → State → List ℕ
 replyData number p s = cond (eqb number 0 && reads p) (dataBack (opcodeOf p) (dataOf p) s) []
 
--- The reply of a refusal, or of a write that was accepted.
+-- Rule 3.1: the reply of a refusal, or of a write that was accepted.
 unfoldable pub emptyReply : ℕ → List ℕ → List ℕ
 emptyReply number p = cond (answers number p) (replyBytes (eqb (hasSum (headerOf p)) 1) number []) []
 
--- The reply's bytes, none where none is written.
+-- Rule 3.1: the reply's bytes, none where none is written.
 unfoldable pub replyTo : ℕ → List ℕ → State → List ℕ
 replyTo number p s =
     cond (answers number p) (replyBytes (eqb (hasSum (headerOf p)) 1) number (replyData number p s)) []
 
--- Each refusal "leaves settings, tables and the reply buffer unchanged, except for the reply itself"; a read changes nothing either.
+-- Rule 4.2: a refusal changes neither settings nor tables; a read does not either.
 abbrev pub stateAfter : ℕ → List ℕ → State → State
 stateAfter number p s = cond (eqb number 0 && not (reads p)) (written (opcodeOf p) (dataOf p) s) s
 
--- "The answer returned to the caller gives the status and the reply's length, 0 for none." Then all that was lent, as it is left.
+-- Rule 3.4: the status and the length of the reply, 0 where there is none. Then all that was lent, as it is left.
 pub record Out : Type 0 where
   pub status : ℕ
   pub size : ℕ
@@ -71,5 +72,6 @@ outOf number p s reply =
       reply = over (replyTo number p s) reply;
     }
 
+-- Rules 1.1, 3.4 and 4.2.
 unfoldable pub step : List ℕ → State → List ℕ → Out
 step p s reply = outOf (numberOf p s reply) p s reply

@@ -44,7 +44,7 @@ pub fn decide(packet: &[u8], block: &[u8]) -> Reading
     r
 }
 
-// Whether a start and count run past their table: 34h past the staged shape's points, 2Bh past a colour's gains.
+// Whether start + count goes past the staged shape's points (34h, rule 5.4) or past a colour's gains (2Bh, rule 5.8).
 fn runs_past(opcode: usize, reads: bool, data: &[u8], block: &[u8]) -> bool
     ensures { λ r. ⌜ r ≡ runsPast opcode reads (now («data» .entry)) (now (block .entry)) ⌝ }
 {
@@ -101,7 +101,7 @@ pub fn acknowledge(packet: &[u8], number: usize, reply: &mut [u8]) -> usize
     reply::seal(reply, number, 0, header / 32 % 2 == 1)
 }
 
-// A status, document 01's number or 0, and the reply's length, 0 for none.
+// Rule 3.4: a status, the refusal's number or 0, and the length of the reply, 0 where there is none.
 pub struct Outcome {
     pub status: u8,
     pub size: usize,

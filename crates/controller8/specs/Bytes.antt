@@ -1,5 +1,4 @@
--- "There, every table, room or plan is lent as its bytes, low byte first, of the matching length, and the answers are those of the entries on
--- wider numbers." Lengths are judged in bytes, exactly.
+-- Rule 1.3: block and tables lent as bytes, with the answers of the entries on numbers. Lengths are judged in bytes, exactly.
 use Prim.Native.Nat.{ℕ}
 use mathlib.Core.Path.{_≡_}
 use mathlib.Core.Logic.{_↔_}
@@ -29,7 +28,7 @@ stateIn l = record { block = l .block; staged = words (l .staged); live = words 
 abbrev pub lentOf : State → Lent
 lentOf s = record { block = s .block; staged = bytes (s .staged); live = bytes (s .live); gains = bytes (s .gains) }
 
--- Two bytes for each number: block 1,024, maps 7,936, gains 12,096.
+-- Rule 1.3: two bytes for each number: block 1,024, maps 7,936, gains 12,096.
 abbrev pub byteLengthsRight : Lent → Bool
 byteLengthsRight l =
     eqb (length (l .block)) 1024
@@ -50,7 +49,7 @@ lentOut status size l reply = record { status = status; size = size; lent = l; r
 abbrev pub outBytes : Out → LentOut
 outBytes o = lentOut (o .status) (o .size) (lentOf (o .state)) (o .reply)
 
--- A wrong length is refusal 1, with no reply and every byte as it was; else what the step on numbers gives.
+-- Rules 1.3 and 4.1, 1: a wrong length is refusal 1, with no reply and every byte as it was; else what the step on numbers gives.
 unfoldable pub stepBytes : List ℕ → Lent → List ℕ → LentOut
 stepBytes p l reply = cond (byteLengthsRight l) (outBytes (step p (stateIn l) reply)) (lentOut 1 0 l reply)
 
@@ -61,12 +60,13 @@ pub record LentReset : Type 0 where
 abbrev pub lentReset : ℕ → Lent → LentReset
 lentReset status l = record { status = status; lent = l }
 
+-- Rules 1.3 and 5.10: a wrong length is 1, and every byte stays; else the bytes of the state after reset.
 unfoldable pub resetBytes : Lent → LentReset
 resetBytes l = cond (byteLengthsRight l) (lentReset 0 (lentOf resetState)) (lentReset 1 l)
 
 -- ---- What the entries on bytes promise.
 
--- The lengths of block and tables in bytes.
+-- Rule 1.3: the lengths of block and tables in bytes.
 pub record BytesLent (l : Lent) : Type 0 where
   pub block : length (l .block) ≡ 1024
   pub staged : length (l .staged) ≡ 7936
@@ -77,8 +77,8 @@ pub record BytesLent (l : Lent) : Type 0 where
 abbrev pub numbersOut : LentOut → Out
 numbersOut o = out (o .status) (o .size) (stateIn (o .lent)) (o .reply)
 
--- One packet. Demand 1 byte for byte; demand 2 with the lengths in bytes; and with these right, all that the entry on numbers promises of the
--- numbers that the bytes hold.
+-- One packet: rule 4.2 byte for byte; accepted exactly as on numbers, with the lengths in bytes; and with these right, all that the
+-- entry on numbers promises of the numbers that the bytes hold.
 pub record HandledBytes (p : List ℕ) (l : Lent) (reply : List ℕ) (o : LentOut) : Type 0 where
   pub outcome : o ≡ stepBytes p l reply
   -- A status other than 0 leaves block, staged, live and gains, byte for byte, as they were.
@@ -90,7 +90,7 @@ pub record HandledBytes (p : List ℕ) (l : Lent) (reply : List ℕ) (o : LentOu
   pub exactly : (o .status ≡ 0) ↔ (BytesLent l × Accepted p (stateIn l) reply)
   pub numbers : BytesLent l → Handled p (stateIn l) reply (numbersOut o)
 
--- Reset.
+-- Rule 5.10, on bytes.
 pub record ResetsBytes (l : Lent) (o : LentReset) : Type 0 where
   pub outcome : o ≡ resetBytes l
   pub exactly : (o .status ≡ 0) ↔ BytesLent l

@@ -1,4 +1,4 @@
--- The packets of a plan, sent to a front end.
+-- Rules 6.3 and 7.3: the packets of a plan, sent to a front end.
 use Prim.Native.Nat.{ℕ, _*_}
 use mathlib.Core.Path.{_≡_}
 use mathlib.Core.List.{List, [], _∷_}
@@ -18,9 +18,9 @@ pub data AllStored : List (List ℕ) → State → List ℕ → Type 0 where
   next : {p : List ℕ} {ps : List (List ℕ)} {s : State} {reply : List ℕ} → step p s reply ≡ out 0 0 (step p s reply .state) reply
       → AllStored ps (step p s reply .state) (step p s reply .reply) → AllStored (p ∷ ps) s reply
 
--- The plan's packets sent to a front end whose staged map of n points is held.
+-- Rules 6.3 and 7.3: the plan's packets sent to a front end whose staged map of n points is held.
 pub record Delivered (n : ℕ) (held wanted : List ℕ) (s : State) (reply : List ℕ) : Type 0 where
-  -- "A list turns held into wanted if the last map equals wanted."
+  -- Rule 7.2: the staged points have become wanted.
   pub turned : take (2 * n) (sent (packetsOf held wanted) s reply .staged) ≡ wanted
   -- Points past the shape are as they were.
   pub behind : drop (2 * n) (sent (packetsOf held wanted) s reply .staged) ≡ drop (2 * n) (s .staged)
@@ -28,5 +28,5 @@ pub record Delivered (n : ℕ) (held wanted : List ℕ) (s : State) (reply : Lis
   pub block-kept : sent (packetsOf held wanted) s reply .block ≡ s .block
   pub live-kept : sent (packetsOf held wanted) s reply .live ≡ s .live
   pub gains-kept : sent (packetsOf held wanted) s reply .gains ≡ s .gains
-  -- "the batch's packets are such a list, all accepted"
+  -- Rule 7.3: every one of them is accepted.
   pub taken : AllStored (packetsOf held wanted) s reply

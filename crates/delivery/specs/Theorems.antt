@@ -15,12 +15,13 @@ use Rattle.upload.specs.Examples.{Examples}
 use Rattle.delivery.specs.Delivery.{Delivered}
 
 pub record Theorems : Type 0 where
-  -- Packets none of which is an accepted apply leave the live side, whatever they are.
+  -- Rule 5.6: packets none of which is an accepted apply leave the live side, whatever they are.
   pub live-kept : (xs : List Call) (s : State) → NoneApplies xs s → LiveKept s (stateAfterAll xs s)
-  -- A planned upload, sent to a front end whose shape has n points and whose staged map is held, is accepted packet by packet and leaves wanted.
+  -- Rule 7.3: a planned upload, sent to a front end whose shape has n points and whose staged map is held, is accepted packet by
+  -- packet and leaves wanted.
   pub delivered : (n : ℕ) (held wanted : List ℕ) → MapOf n held → MapOf n wanted → (s : State) (reply : List ℕ) → LentRight s reply
       → stagedPoints (s .block) ≡ n → take (2 * n) (s .staged) ≡ held → Delivered n held wanted s reply
-  -- The plan begins at a point that differs with the smallest of the counts that cost least.
+  -- Rule 6.2: the plan begins at a point that differs with the smallest of the counts that cost least.
   pub smallest-count : (ds : List Bool) → SmallestCount ds (suc (more 125 (rooms ds)))
   -- Every number of a batch is a byte.
   pub batch-bytes : (n : ℕ) (held wanted : List ℕ) → n ≤ 65536 → MapOf n held → MapOf n wanted → (k : ℕ) → getD (batchOf held wanted) k 0 < 256

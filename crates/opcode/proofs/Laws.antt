@@ -26,8 +26,8 @@ pub size-small : (i : ℕ) (f : Field) → i < 41 → f ≡ getD fieldList i noF
 unfolding fieldList short
 size-small i f h e = rw e (leb→le (getD fieldList i noField .size) 4 (everywhere short noField fieldList tt i h))
 
--- Words, from the i-th on: all of them, one that is passed, and the end. Then how far they are in range ("Words 0-8191"), and how far they
--- rise ("strictly rising").
+-- Words, from the i-th on: all of them, one that is passed, and the end. Then how far they are in range (rule 5.8), and how far
+-- they rise (rule 5.5).
 module _ (s : List ℕ) (at count : ℕ) where
   pub words-start : wordsAt s (at + 2 * 0) (count - 0) ≡ wordsAt s at count
   words-start =

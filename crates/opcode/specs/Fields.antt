@@ -1,4 +1,4 @@
--- Fields of a command's data and the first of them at fault, in packet order.
+-- Rule 4.1, 10: fields of a command's data and the first of them at fault, in packet order.
 use Prim.Native.Nat.{ℕ, zero, suc, _+_}
 use mathlib.Core.Bool.{Bool, cond, not, _&&_}
 use mathlib.Core.List.{List, [], _∷_}
@@ -44,13 +44,13 @@ unfoldable pub riseFrom : ℕ → List ℕ → ℕ
 riseFrom last [] = 0
 riseFrom last (w ∷ ws) = cond (ltb last w) (suc (riseFrom w ws)) 0
 
--- "strictly rising": the index of the first number that is not above the one before it, the list's length for none.
+-- Rule 5.5: the index of the first number that is not above the one before it, the list's length for none.
 unfoldable pub rise : List ℕ → ℕ
 unfolding riseFrom
 rise [] = 0
 rise (w ∷ ws) = suc (riseFrom w ws)
 
--- "Words 0-8191": the index of the first number above 8191, the list's length for none.
+-- Rule 5.8: the index of the first number above 8,191, the list's length for none.
 unfoldable pub firstLarge : List ℕ → ℕ
 firstLarge [] = 0
 firstLarge (w ∷ ws) = cond (leb w 8191) (suc (firstLarge ws)) 0

@@ -6,7 +6,7 @@ use Rattle.packet.specs.Reading.{Answer, frameRefusals, refusedBy, answe
 use Rattle.packet.specs.declared.Frame.{Frame}
 use Rattle.packet.specs.declared.Frame.the-variants.{Sound, Broken}
 
--- Refusals 2 to 6, or what stands in the packet.
+-- Rule 4.1, 2 to 6: these refusals, or what stands in the packet.
 unfoldable pub framed : List ℕ → Answer
 framed p = answered (first (frameRefusals p)) p
 

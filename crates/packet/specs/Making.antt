@@ -1,6 +1,5 @@
--- Document 01: "Packet making takes a command and options and gives the packet's length, the buffer past it unchanged. It refuses with 1
--- for a buffer under 512, else with what reading would give (3, 7, 8, 9, 10 or 11; 7 for any opcode over 255); the length is then 0, the
--- buffer unchanged."
+-- Rule 4.4: making a packet from an opcode, options and data. It refuses what reading would refuse, so that nothing is sent
+-- that the front end does not read.
 use Prim.Native.Nat.{ℕ, _+_}
 use mathlib.Core.Bool.{Bool, cond}
 use mathlib.Core.List.{List, [], _∷_, _++_}
@@ -18,31 +17,32 @@ use Rattle.packet.specs.Frame.{fields}
 abbrev pub present : ℕ → List ℕ → List ℕ
 present option s = cond (eqb option 1) s []
 
--- Header, opcode and length field of a packet with n bytes of data; "all destination 4".
+-- Rule 4.4: header, opcode and length field of a packet with n bytes of data, for destination 4.
 abbrev pub headBytes : ℕ → ℕ → ℕ → List ℕ
 headBytes op o n = ((4 + o) ∷ op ∷ present (twoByte o) (0 ∷ [])) ++ present (hasLength o) (wordBytes n)
 
--- "Then the opcode (1 or 2 bytes), length (0 or 2), data, checksum (0 or 1)."
+-- Rule 2.1: the packet's fields, in their order.
 unfoldable pub packetOf : ℕ → ℕ → List ℕ → List ℕ
 packetOf op o d = sealed (eqb (hasSum o) 1) (headBytes op o (length d) ++ d)
 
--- The refusals of making, in their order, for a buffer of so many bytes.
+-- Rule 4.4: the refusals of making, in order, for a buffer of so many bytes. An opcode over 255 is not carried, so it is 7.
 abbrev pub makeRefusals : ℕ → ℕ → List ℕ → ℕ → List (ℕ × Bool)
 makeRefusals op o d room = (1, ltb room 512) ∷ (3, ltb 512 (fields o + length d)) ∷ judgement op o d
 
--- What making answers, and the buffer behind it.
+-- Rule 4.4: what making answers, and the buffer as it is left.
 pub record Made : Type 0 where
   pub status : ℕ
   pub size : ℕ
   pub buffer : List ℕ
 
+-- Rule 4.4: what is made leaves the buffer behind it; a refusal has length 0 and leaves the whole buffer.
 abbrev pub madeBy : ℕ → ℕ → ℕ → List ℕ → List ℕ → Made
 madeBy n op o d buffer =
     cond (eqb n 0)
     (record { status = 0; size = length (packetOf op o d); buffer = over (packetOf op o d) buffer })
     (record { status = n; size = 0; buffer = buffer })
 
--- Of the options only bits 3 to 7 are looked at.
+-- Rule 2.2: of the options only bits 3 to 7 are looked at.
 unfoldable pub made : ℕ → ℕ → List ℕ → List ℕ → Made
 made op options d buffer =
     madeBy (first (makeRefusals op (optionsIn options) d (length buffer))) op (optionsIn options) d buffer

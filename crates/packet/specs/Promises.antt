@@ -1,5 +1,5 @@
--- What reading and making promise, beside their equations: demand 2 of single packets. Both stand in the contracts of the functions and of
--- their C entries.
+-- What reading and making promise, beside their equations: rules 2.6, 4.4 and 4.5. Both stand in the contracts of the functions
+-- and of their C entries.
 use Prim.Native.Nat.{ℕ, _+_, _≤_, _<_}
 use mathlib.Core.Path.{_≡_}
 use mathlib.Core.Logic.{_↔_}
@@ -16,30 +16,30 @@ use Rattle.packet.specs.Making.{packetOf, Made, made}
 abbrev pub dataRead : Answer → List ℕ → List ℕ
 dataRead a p = take (a .size) (drop (a .place) p)
 
--- An accepted packet, made again from its reading, has the same bytes.
+-- Rule 4.5: an accepted packet, made again from its reading, has the same bytes.
 abbrev pub MadeAgain : List ℕ → Answer → List ℕ → Type 0
 MadeAgain p a buffer =
     made (a .opcode) (a .options) (dataRead a p) buffer ≡ record { status = 0; size = length p; buffer = over p buffer }
 
--- Reading, of its answer to a packet.
+-- Rule 2.6: reading, of its answer to a packet.
 pub record PacketRead (p : List ℕ) (a : Answer) : Type 0 where
   pub outcome : a ≡ reading p
   -- Taken exactly if the frame is sound and meant for us, and the data is allowed.
   pub exactly : (a .number ≡ 0) ↔ Taken p
   pub again : a .number ≡ 0 → (buffer : List ℕ) → 512 ≤ length buffer → MadeAgain p a buffer
 
--- What was made reads back as the command and the options that it was made from, and its data byte for byte.
+-- Rule 4.5: what was made reads back as the command and the options that it was made from, and its data byte for byte.
 pub record ReadsAsMade (op options : ℕ) (d : List ℕ) (m : Made) : Type 0 where
   pub command : reading (take (m .size) (m .buffer))
       ≡ record { number = 0; opcode = op; options = optionsIn options; place = place (optionsIn options); size = length d }
   pub content : dataOf (take (m .size) (m .buffer)) ≡ d
 
--- Making, of its answer and the buffer that it leaves.
+-- Rule 4.4: making, of its answer and the buffer that it leaves.
 pub record PacketMade (op options : ℕ) (d buffer : List ℕ) (m : Made) : Type 0 where
   pub outcome : m ≡ made op options d buffer
   pub reads-back : m .status ≡ 0 → ReadsAsMade op options d m
-  -- Refused with 1 for a short buffer, else with what reading gives for the packet; an opcode over 255, of which there is no packet that could be
-  -- sent, is 7.
+  -- Refused with 1 for a short buffer, else with what reading gives for the packet; an opcode over 255, of which there is no packet
+  -- that could be sent, is 7.
   pub short : length buffer < 512 → m .status ≡ 1
   pub refusal : 512 ≤ length buffer → m .status ≡ reading (packetOf op (optionsIn options) d) .number
   pub unknown : 255 < op → 512 ≤ length buffer → fields (optionsIn options) + length d ≤ 512 → m .status ≡ 7

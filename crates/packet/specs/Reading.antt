@@ -1,5 +1,4 @@
--- Document 01: "Reading, apart from all state, ends in a command with its four header options (bits 3, 4, 5, 6) or in a refusal from 2 to
--- 11, and every caller takes that answer apart before going on."
+-- Rule 2.6: reading looks at the packet alone, and gives a command with its options and the place of its data, or a refusal.
 use Prim.Native.Nat.{ℕ, _-_}
 use mathlib.Core.Bool.{Bool, cond, not, _&&_}
 use mathlib.Core.List.{List, [], _∷_, _++_}
@@ -14,28 +13,28 @@ use Rattle.packet.specs.Frame.{headerOf, opcodeOf, optionsOf, lengthPlac
 use Rattle.packet.specs.declared.Reading.{Reading}
 use Rattle.packet.specs.declared.Reading.the-variants.{Command, Refused}
 
--- 2: "the packet is shorter than the fields its header announces (empty too)"
+-- Rule 4.1, 2: fewer bytes than the header announces; an empty packet has too few as well.
 abbrev pub tooShort : List ℕ → Bool
 tooShort p = ltb (length p) (fields (headerOf p))
 
--- 3: "it is over 512 bytes"
+-- Rule 4.1, 3: more than 512 bytes.
 abbrev pub tooLong : List ℕ → Bool
 tooLong p = ltb 512 (length p)
 
--- 4: "the length field differs from the data bytes there"
+-- Rule 4.1, 4: the length field is not the number of data bytes.
 abbrev pub lengthDiffers : List ℕ → Bool
 lengthDiffers p = eqb (hasLength (headerOf p)) 1 && not (eqb (wordAt p (lengthPlace (headerOf p))) (dataSize p))
 
--- 5: "the checksum differs"
+-- Rule 4.1, 5: the last byte is not the checksum of those before it.
 abbrev pub checksumDiffers : List ℕ → Bool
 checksumDiffers p =
     eqb (hasSum (headerOf p)) 1 && not (eqb (byteAt p (length p - 1)) (checksum (take (length p - 1) p)))
 
--- 6: "the destination isn't 4"
+-- Rule 4.1, 6: another destination than 4.
 abbrev pub elsewhere : List ℕ → Bool
 elsewhere p = not (eqb (destination (headerOf p)) 4)
 
--- Document 01's rows 2 to 6, in its order.
+-- Rule 4.1: rows 2 to 6, in order.
 abbrev pub frameRefusals : List ℕ → List (ℕ × Bool)
 frameRefusals p =
     (2, tooShort p)
@@ -45,11 +44,11 @@ frameRefusals p =
     ∷ (6, elsewhere p)
     ∷ []
 
--- Refusals 2 to 11, in this order: those of the frame, and 7 to 11 of the command in it.
+-- Rule 2.6: refusals 2 to 11 in order, those of the frame, and 7 to 11 of the command in it.
 abbrev pub refusals : List ℕ → List (ℕ × Bool)
 refusals p = frameRefusals p ++ judgement (opcodeOf p) (optionsOf p) (dataOf p)
 
--- What reading gives: the refusal, 0 for none; then opcode, options (header bits 3 to 7 in place; bit 7 says read or write), the place
+-- Rule 2.6: the refusal, 0 for none; then opcode, options (header bits 3 to 7 in place; bit 7 says read or write), the place
 -- of the data and its size. All 0 but the number if refused.
 pub record Answer : Type 0 where
   pub number : ℕ
@@ -67,6 +66,7 @@ answered n p =
     (record { number = 0; opcode = opcodeOf p; options = optionsOf p; place = place (headerOf p); size = dataSize p })
     (refusedBy n)
 
+-- Rule 2.6: the first refusal that applies, or the command.
 unfoldable pub reading : List ℕ → Answer
 reading p = answered (first (refusals p)) p
 

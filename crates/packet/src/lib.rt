@@ -198,7 +198,7 @@ fn sum_differs(packet: &[u8], header: usize) -> bool
     wire::byte(packet, packet.len() - 1) != wire::checksum(packet, packet.len() - 1)
 }
 
-// What making answers: a status, document 01's number or 0, and the packet's size, 0 if refused.
+// What making answers (rule 4.4): a status, the refusal's number or 0, and the packet's size, 0 if refused.
 pub struct Made {
     pub status: u8,
     pub size: usize,

@@ -79,7 +79,7 @@ fn low(room: &[u8], from: usize, k: usize) -> u32
     m
 }
 
-// The least bytes for the points from i on, where the room behind i is filled.
+// Rule 6.5: the fewest bytes for point i and those behind it, where the room behind i is filled.
 fn least_at(held: &[u8], wanted: &[u8], room: &[u8], n: usize, i: usize) -> u32
     requires { ⌜
         (i < n)

@@ -1,6 +1,4 @@
--- Document 01, "Reply": "Reply reading takes a reply's bytes and whether a checksum is expected. It gives the status and the place of
--- the data, or, in this order: 2 under three bytes (four with a checksum), 3 over 512, 4 if the length differs from the data there, 5,
--- and 10 for a status over 12." A reply's data is at 3, "behind its three-byte head".
+-- Rule 3.5: reading a reply, told whether a checksum is expected. Data is at 3, behind status and length (rule 3.3).
 use Prim.Native.Nat.{ℕ, _+_, _-_, _≤_}
 use mathlib.Core.Path.{_≡_}
 use mathlib.Core.Logic.{_↔_}
@@ -14,7 +12,7 @@ use Rattle.wire.specs.First.{first}
 use Rattle.reply.specs.declared.ReplyReading.{ReplyReading}
 use Rattle.reply.specs.declared.ReplyReading.the-variants.{Reply, Refused}
 
--- What reply reading gives: the refusal, 0 for none; then the status, the data's place and its size. All 0 but the number if refused.
+-- Rule 3.5: the refusal, 0 for none; then the status, the data's place and its size. All 0 but the number if refused.
 pub record ReplyAnswer : Type 0 where
   pub number : ℕ
   pub status : ℕ
@@ -25,10 +23,11 @@ pub record ReplyAnswer : Type 0 where
 abbrev pub sumSize : Bool → ℕ
 sumSize sum = cond sum 1 0
 
--- Refusal 5: a checksum is expected, and the last byte is not that of the bytes before it.
+-- Rule 3.5, 5: a checksum is expected, and the last byte is not that of the bytes before it.
 abbrev pub sumWrong : List ℕ → Bool → Bool
 sumWrong r sum = sum && not (eqb (byteAt r (length r - 1)) (checksum (take (length r - 1) r)))
 
+-- Rule 3.5: the refusals, in order.
 abbrev pub replyRefusals : List ℕ → Bool → List (ℕ × Bool)
 replyRefusals r sum =
     (2, ltb (length r) (3 + sumSize sum))
@@ -47,6 +46,7 @@ replyAnswered n r sum =
     (record { number = 0; status = byteAt r 0; place = 3; size = length r - 3 - sumSize sum })
     (replyRefusedBy n)
 
+-- Rule 3.5: the first refusal that applies, or what the reply says.
 unfoldable pub replyReading : List ℕ → Bool → ReplyAnswer
 replyReading r sum = replyAnswered (first (replyRefusals r sum)) r sum
 
@@ -55,7 +55,7 @@ abbrev pub replyAnswer : ReplyReading → ReplyAnswer
 replyAnswer (Reply status at size) = record { number = 0; status = status; place = at; size = size }
 replyAnswer (Refused why) = replyRefusedBy (why .number)
 
--- Which bytes are a reply, apart from the tests that decide it.
+-- Rule 3.5: which bytes are a reply, apart from the tests that decide it.
 pub record ReplyTaken (r : List ℕ) (sum : Bool) : Type 0 where
   -- Status and length are there, and the checksum if one is expected; 512 bytes at most.
   pub whole : 3 + sumSize sum ≤ length r
@@ -66,7 +66,7 @@ pub record ReplyTaken (r : List ℕ) (sum : Bool) : Type 0 where
   -- 0, or the number of a refusal.
   pub status : byteAt r 0 ≤ 12
 
--- What reply reading promises of its answer.
+-- Rule 3.5: what reply reading promises of its answer.
 pub record ReplyRead (r : List ℕ) (sum : Bool) (a : ReplyAnswer) : Type 0 where
   pub outcome : a ≡ replyReading r sum
   pub exactly : (a .number ≡ 0) ↔ ReplyTaken r sum

@@ -1,5 +1,5 @@
--- What a stored block holds where refusal 1 does not apply, row by row of the table in docs/LAYOUT.md, and not by way of the test. Bytes
--- that no row names may be anything.
+-- Rule 4.1, 1: what a stored block holds where refusal 1 does not apply, row by row of the table in docs/LAYOUT.md, and not by way
+-- of the test. Bytes that no row names may be anything.
 use Prim.Native.Nat.{ℕ, _+_, _*_, _≤_}
 use mathlib.Core.Path.{_≡_}
 use mathlib.Core.List.{List}
@@ -7,40 +7,40 @@ use lib.ListN.{getD, take, drop}
 use Rattle.wire.specs.Tables.{words}
 use Rattle.opcode.specs.Allowed.{Rising, two}
 
--- Curtain colour: 0, 2-8.
+-- Rule 5.1, 1Ah: curtain colour 0, 2-8.
 pub data CurtainColour : ℕ → Type 0 where
   black : CurtainColour 0
   colour : {v : ℕ} → 2 ≤ v → v ≤ 8 → CurtainColour v
 
--- Mode, columns and rows of a shape: mode 0 with columns 2-62 and rows 2-32, or mode 1 with exactly 62 and 32.
+-- Rule 5.5: mode, columns and rows of a shape: mode 0 with 2-62 columns and 2-32 rows, or mode 1 with exactly 62 and 32.
 pub data ShapeCounts : ℕ → ℕ → ℕ → Type 0 where
   counted : {columns rows : ℕ} → 2 ≤ columns → columns ≤ 62 → 2 ≤ rows → rows ≤ 32 → ShapeCounts 0 columns rows
   listed : ShapeCounts 1 62 32
 
--- The shape rule, of the 193 bytes from a place on: mode, columns, rows, and in either mode both lists strictly rising.
+-- Rule 4.1, 1: a shape, of the 193 bytes from a place on: mode, columns, rows, and in either mode both lists strictly rising.
 pub record ShapeAllowed (b : List ℕ) (at : ℕ) : Type 0 where
   pub counts : ShapeCounts (getD b at 0) (two (getD b (at + 1) 0) (getD b (at + 2) 0)) (two (getD b (at + 3) 0) (getD b (at + 4) 0))
   pub columns-rise : Rising (words (take 124 (drop (at + 5) b)))
   pub rows-rise : Rising (words (take 64 (drop (at + 129) b)))
 
--- A pin's three bytes: direction, level, drain, 0-1 each.
+-- Rule 5.1, 60h, a pin's three bytes: direction, level, drain, 0-1 each.
 pub record PinAllowed (b : List ℕ) (at : ℕ) : Type 0 where
   pub direction : getD b at 0 ≤ 1
   pub level : getD b (at + 1) 0 ≤ 1
   pub drain : getD b (at + 2) 0 ≤ 1
 
--- A PWM port's frequency: four bytes, low byte first.
+-- Rule 5.1, 65h, a PWM port's frequency: four bytes, low byte first.
 abbrev pub frequency : List ℕ → ℕ → ℕ
 frequency b at = two (getD b at 0) (getD b (at + 1) 0) + 65536 * two (getD b (at + 2) 0) (getD b (at + 3) 0)
 
--- A PWM port's six bytes: frequency 20-10,390,000, duty 0-100, on 0-1.
+-- Rule 5.1, 65h, a PWM port's six bytes: frequency 20-10,390,000; then duty 0-100 and on 0-1.
 pub record PwmAllowed (b : List ℕ) (at : ℕ) : Type 0 where
   pub slowest : 20 ≤ frequency b at
   pub fastest : frequency b at ≤ 10_390_000
   pub duty : getD b (at + 4) 0 ≤ 100
   pub on : getD b (at + 5) 0 ≤ 1
 
--- A UART port's ten bytes: on 0-1, baud 0-11, bits 0-3, stop 0-1, parity 0-2, flow 0-1, two triggers 0-4, polarity 0-1, source 0-1.
+-- Rule 5.1, 6Dh, a UART port's ten bytes, each from 0 to what stands here.
 pub record UartAllowed (b : List ℕ) (at : ℕ) : Type 0 where
   pub on : getD b at 0 ≤ 1
   pub baud : getD b (at + 1) 0 ≤ 11
@@ -53,7 +53,7 @@ pub record UartAllowed (b : List ℕ) (at : ℕ) : Type 0 where
   pub polarity : getD b (at + 8) 0 ≤ 1
   pub source : getD b (at + 9) 0 ≤ 1
 
--- The rows of the table, in its order.
+-- Rule 4.1, 1: the rows of docs/LAYOUT.md, in its order.
 pub record SettingsAllowed (b : List ℕ) : Type 0 where
   -- 0, 11h: display 0-4.
   pub display : getD b 0 0 ≤ 4

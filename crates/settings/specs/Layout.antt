@@ -1,4 +1,4 @@
--- Where the settings stand in the block: "the settings lent as a block of 1,024 bytes whose layout the team fixes in docs/" (docs/LAYOUT.md).
+-- Rule 1.4: where the settings stand in the block, as docs/LAYOUT.md has it.
 -- In opcode order, each command's fields in the order of its write data, without the pin or port byte.
 use Prim.Native.Nat.{ℕ, _+_, _*_}
 use mathlib.Core.Bool.{cond}
@@ -9,6 +9,7 @@ use lib.Dec.{eqb}
 use Rattle.wire.specs.Numbers.{byteAt, wordAt}
 use Rattle.opcode.specs.Commands.{commandOf}
 
+-- Rule 1.3.
 abbrev pub blockSize : ℕ
 blockSize = 1024
 
@@ -24,8 +25,7 @@ at op first = record { opcode = op; first = first; step = 0 }
 abbrev pub eachAt : ℕ → ℕ → ℕ → Place
 eachAt op first step = record { opcode = op; first = first; step = step }
 
--- 60h stores direction, level and drain for each pin. "60h and 61h share one level per pin; a level is stored whatever the direction
--- (house)."
+-- Rule 5.3: 60h stores direction, level and drain for each pin, and 61h that same level, whichever the direction.
 abbrev pub places : List Place
 places =
     at 0x11 0
@@ -48,7 +48,7 @@ abbrev pub placeIn : ℕ → List Place → Place
 placeIn op [] = at 0 0
 placeIn op (p ∷ ps) = cond (eqb op (p .opcode)) p (placeIn op ps)
 
--- "65h takes ports 0-10 and 13": 13 stands behind 10. Else the pin or port itself.
+-- Rule 5.1, 65h: port 13 stands behind 10. Else the pin or port itself.
 abbrev pub slot : ℕ → ℕ → ℕ
 slot op port = cond (eqb op 0x65) (cond (eqb port 13) 11 port) port
 
@@ -56,7 +56,7 @@ slot op port = cond (eqb op 0x65) (cond (eqb port 13) 11 port) port
 unfoldable pub placeOf : ℕ → List ℕ → ℕ
 placeOf op d = placeIn op places .first + placeIn op places .step * slot op (byteAt d 0)
 
--- Places of 35h (staged), 36h (enable, then live as at 35h's) and 38h.
+-- Rule 1.4: places of 35h (staged), 36h (enable, then live as at 35h's) and 38h.
 abbrev pub stagedShape : ℕ
 stagedShape = 8
 
@@ -83,8 +83,8 @@ columnsAt block shape = wordAt block (shape + 1)
 abbrev pub rowsAt : List ℕ → ℕ → ℕ
 rowsAt block shape = wordAt block (shape + 3)
 
--- A fixed write moves its data, without the pin or port byte that a read sends too, to its place; a read returns what stands there: "same",
--- "the last three, for the pin sent", "level", "all but the port", "the last ten". "Packets leave block bytes without a meaning unchanged."
+-- Rules 1.4 and 5.1: a fixed write moves its data, without the pin or port byte that a read sends too, to its place, and leaves all
+-- other bytes. A read returns what stands there.
 abbrev pub stored : ℕ → List ℕ → List ℕ → List ℕ
 stored op d block = paste block (placeOf op d) (drop (commandOf op .read) d) (commandOf op .back)
 

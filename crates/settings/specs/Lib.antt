@@ -1,4 +1,4 @@
--- The settings, lent as a block of 1,024 bytes: where each stands, what it may be, the test of that, and reset.
+-- The block of settings: where each stands, what it may be, the test of that, and reset.
 pub mod Layout
 pub mod Allowed
 pub mod Ranges

@@ -1,5 +1,4 @@
--- The range of every stored field. Refusal 1: "a setting, staged or live, lies outside its range below (in mode 1 any shape but 62 × 32;
--- lists not rising, in either mode)". A field's range is that of the write that stores it.
+-- Rule 4.1, 1: the test that every stored field is in its range. A field's range is that of the write that stores it.
 use Prim.Native.Nat.{ℕ, zero, suc, _+_}
 use mathlib.Core.Path.{_≡_}
 use mathlib.Core.Logic.{_↔_}
@@ -30,7 +29,7 @@ unfoldable pub pictureFields : List Field
 pictureFields =
     fieldsOf 0x11 ++ fieldsOf 0x12 ++ fieldsOf 0x13 ++ fieldsOf 0x1A ++ fieldsOf 0x1B ++ fieldsOf 0x1C ++ fieldsOf 0x1D
 
--- 39h: 0 alone is stored.
+-- Rule 5.1, 39h: 0 alone is stored.
 abbrev pub updateMode : Field
 updateMode = byte 0 0
 
@@ -44,11 +43,11 @@ unfoldable pub right : List Field → List ℕ → ℕ → Bool
 right [] block place = true
 right (f ∷ fs) block place = takes f (number (f .size) block place) && right fs block (place + f .size)
 
--- "strictly rising": n entries from a place on.
+-- Rule 5.5: n entries from a place on rise.
 abbrev pub rising : List ℕ → ℕ → ℕ → Bool
 rising block place n = eqb (rise (wordsAt block place n)) n
 
--- The shape rule, of a shape at a place: mode 0 with columns 2-62 and rows 2-32, or mode 1 with exactly 62 and 32; and in either mode
+-- Rule 4.1, 1: a shape at a place: mode 0 with 2-62 columns and 2-32 rows, or mode 1 with exactly 62 and 32; and in either mode
 -- both lists rising. No single write carries all of it.
 unfoldable pub shapeRight : List ℕ → ℕ → Bool
 shapeRight block shape =
@@ -56,7 +55,7 @@ shapeRight block shape =
     && (eqb (modeAt block shape) 0 || (eqb (columnsAt block shape) 62 && eqb (rowsAt block shape) 32)))
     && (rising block (shape + 5) 62 && rising block (shape + 129) 32)
 
--- Every stored field in its range. Bytes without a meaning are not judged.
+-- Rule 4.1, 1: every stored field in its range. Bytes without a meaning are not judged.
 unfoldable pub settingsRight : List ℕ → Bool
 settingsRight block =
     right pictureFields block 0
@@ -66,7 +65,7 @@ settingsRight block =
     && right (fieldsOf 0x38) block smoothTable
     && right deviceFields block 497
 
--- What `in_range` promises: its answer is the test's, and that is true exactly if every setting is as it may be.
+-- Rule 4.1, 1: what `in_range` promises: its answer is the test's, and that is true exactly if every setting is as it may be.
 pub record InRange (block : List ℕ) (r : Bool) : Type 0 where
   pub test : r ≡ settingsRight block
   pub exactly : (r ≡ true) ↔ SettingsAllowed block

@@ -57,7 +57,7 @@ fn shape_in_range(block: &[u8], shape: usize) -> bool
     list_in_range(fine, block, shape + 129, 32)
 }
 
-// "in mode 1 any shape but 62 × 32"
+// Rule 4.1, 1: mode 1 has the shape 62 × 32 alone.
 fn counts_in_mode(block: &[u8], shape: usize) -> bool
     requires { ⌜ shape + 193 ≤ length (now block) ⌝ }
     ensures { λ r. ⌜ r ≡ (eqb (modeAt (now (block .entry)) shape) 0
@@ -242,7 +242,7 @@ pub fn reset_block(block: &mut [u8])
     spread(block, 762, 6, 20, 12);
 }
 
-// All of a shape: mode 0, 62 columns, 32 rows, lists 0, 1, 2 and so on.
+// Rule 5.10: all of a shape: mode 0, 62 columns, 32 rows, lists that count from 0.
 fn reset_shape(block: &mut [u8], shape: usize)
     requires { ⌜ shape + 193 ≤ length (now block) ⌝ }
     ensures { λ _. ⌜ now (block .exit) ≡ sets (now (block .entry)) shape resetShape ⌝ }

@@ -68,7 +68,7 @@ one-packet (false ∷ a) b b′ c (suc k) e h l =
 one-packet (true ∷ a) b b′ c (suc k) e h l =
     omega (arith, one-packet a b b′ c 125 e h (omega arith), one-packet a b b′ c k e h (omega arith))
 
--- "The bytes never exceed 4N + 6 × (N / 126 rounded up)": with q packets to open.
+-- Rule 6.2, the bound on bytes: with q packets to open.
 pub best-bound : (k q : ℕ) (ds : List Bool) → length ds ≤ k + 126 * q → best k (rooms ds) ≤ 4 * length ds + 6 * q
 unfolding best rooms
 best-bound k q [] h = omega (arith, best-end k)

@@ -1,5 +1,4 @@
--- "The batch is the plan's packets back to back, header 14h, with wanted's points": a part's packet byte by byte; and that every number of the
--- batch is a byte.
+-- Rule 6.3: a part's packet byte by byte; and that every number of the batch is a byte.
 use Prim.Native.Nat.{ℕ, zero, suc, _+_, _*_, _/_, _%_, _≤_, _<_}
 use mathlib.Core.Path.{_≡_, ap}
 use mathlib.Core.List.{List, [], _∷_, _++_, append-nil, map}
@@ -48,7 +47,7 @@ below-form s c l h i g (suc (suc (suc (suc zero)))) = omega arith
 below-form s c l h i g (suc (suc (suc (suc (suc zero))))) = omega arith
 below-form s c l h i g (suc (suc (suc (suc (suc (suc k)))))) = g k
 
--- Up to 65,536 points, of which document 01 takes 1,984.
+-- Up to 65,536 points, of which rule 6.1 takes 1,984.
 module _ (n : ℕ) (small : n ≤ 65536) (wanted : List ℕ) (w : MapOf n wanted) where
   packet-bytes : (p : Part) → Fits n p → (k : ℕ) → getD (packetFor wanted p) k 0 < 256
   packet-bytes p f =

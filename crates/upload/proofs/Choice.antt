@@ -1,5 +1,5 @@
--- The plan is the list that document 01 fixes: of the lists of parts in order that turn held into wanted by the judge of demand 3 it costs least, of
--- the cheapest it has the lexicographically least counts, and no other list has both.
+-- The plan is the list that rule 6.2 fixes: of the lists of parts in order that turn held into wanted by the judge of rule 7.1 it
+-- costs least, of the cheapest it has the lexicographically least counts, and no other list has both.
 use Prim.Native.Nat.{ℕ, zero, suc, _+_, _-_, _*_, _≤_, _<_}
 use mathlib.Core.Path.{_≡_, refl, sym, ap, _∙_}
 use mathlib.Core.Bool.{Bool, false}

@@ -1,4 +1,4 @@
--- `best`, `rooms` and `more` in document 01's words: the least over the counts 1 to 126, and the smallest count that attains it.
+-- `best`, `rooms` and `more` in the words of rule 6.2: the least over the counts 1 to 126, and the smallest count that attains it.
 use Prim.Native.Nat.{ℕ, zero, suc, _+_, _*_, _≤_, _<_}
 use mathlib.Core.Path.{_≡_, refl, ap}
 use mathlib.Core.Bool.{Bool, true, false}

@@ -1,6 +1,6 @@
--- Laws of upload planning: the least bytes; the lists that cover what differs; what packets do to maps; and the theorems: demand 3 about whole lists
--- of packets, that the plan is the list that document 01 fixes, and what the working room holds (RoomMeans). Rooms, Walk, Site and Outcome speak of the
--- code that plans: its loops, and what it promises.
+-- Laws of upload planning: the least bytes; the lists that cover what differs; what packets do to maps; and the theorems: demand
+-- 3 about whole lists of packets (rule 7.3), that the plan is the list that rule 6.2 fixes, and what the working room holds
+-- (RoomMeans). Rooms, Walk, Site and Outcome speak of the code that plans: its loops, and what it promises.
 pub mod Best
 pub mod Least
 pub mod Rooms

@@ -158,8 +158,8 @@ module _ (n : ℕ) (held wanted : List ℕ) (long : length held ≡ 2 * n) (wide
   unfolding batchOf packetsOf
   batch-cost = length-joined (packetsOf held wanted) ∙ bytes-cost wanted wide plan-in-order
 
--- For every N, of which document 01 takes 1 to 1,984.
--- Demand 3 of the batch that the definitions give.
+-- For every N, of which rule 6.1 takes 1 to 1,984.
+-- Demand 3 (rule 7.3) of the batch that the definitions give.
 pub record Demand3 (n : ℕ) (held wanted : List ℕ) : Type 0 where
   pub turns : Turns n held wanted (packetsOf held wanted)
   pub accepted : AllAccepted n (packetsOf held wanted)
@@ -182,7 +182,7 @@ demand3 n held wanted h w =
           );
     }
 
--- "The bytes never exceed 4N + 6 × (N / 126 rounded up): 8,032 for a full map."
+-- Rule 6.2: the bound on the bytes of a plan.
 pub plan-bound : (n : ℕ) (held wanted : List ℕ) → MapOf n held → MapOf n wanted → cost (planOf held wanted) ≤ 4 * n + 6 * ((n + 125) / 126)
 plan-bound n held wanted h w =
     let all = differs-long n held wanted (h .long) (w .long) in

@@ -1,5 +1,6 @@
--- What planning promises, from what its code leaves: which refusal it gives, and that nothing changes then; else demand 3 holds of the byte count
--- answered, the plan is the one that document 01 chooses, and the room holds the least bytes. Once for lists of numbers, and once for their bytes.
+-- What planning promises, from what its code leaves: which refusal it gives, and that nothing changes then; else demand 3 holds
+-- of the byte count answered, the plan is the one that rule 6.2 chooses, and the room holds the least bytes. Once for lists of
+-- numbers, and once for their bytes.
 use Prim.Native.Nat.{ℕ, _≤_, _*_}
 use mathlib.Core.Path.{_≡_, refl, sym, ap, _∙_}
 use mathlib.Core.Logic.{_↔_}

@@ -1,5 +1,5 @@
--- "working room holds at each index i below N the least bytes for the points from i on, and 0 from N on": the bytes of the batch for these points,
--- which demand 3 says are the fewest.
+-- Rule 6.5, what the working room holds: at each point's index the bytes of the batch for it and the points behind it, which rule
+-- 7.3 says are the fewest.
 use Prim.Native.Nat.{ℕ, zero, suc, _+_, _-_, _*_, _≤_}
 use mathlib.Core.Path.{_≡_, refl, sym, ap, _∙_}
 use mathlib.Core.Bool.{Bool}

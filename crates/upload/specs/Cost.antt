@@ -1,4 +1,4 @@
--- Document 01, "Upload plan": the least bytes for what is left of a map. A packet of count points costs 6 + 4 × count bytes, count 1-126.
+-- Rule 6.2: the least bytes for what is left of a map. A packet of count points costs 6 + 4 × count bytes, count 1-126 (rule 6.1).
 use Prim.Native.Nat.{ℕ, zero, suc, _+_, _*_, _≤_, _<_, min}
 use mathlib.Core.Path.{_≡_}
 use mathlib.Core.Bool.{Bool, true, not, cond, _&&_}
@@ -6,7 +6,7 @@ use mathlib.Core.List.{List, [], _∷_}
 use lib.ListN.{length, getD}
 use lib.Dec.{eqb, leb}
 
--- For each point, whether held and wanted (two numbers a point) differ there.
+-- For each point, two numbers each, whether held differs from wanted there.
 unfoldable pub differs : List ℕ → List ℕ → List Bool
 differs [] w = []
 differs (x ∷ []) w = []
@@ -21,7 +21,8 @@ best k [] = 0
 best zero (x ∷ r) = x
 best (suc k) (x ∷ r) = min x (4 + best k r)
 
--- A point that does not differ needs no packet; one that does opens one: 6 bytes and its own 4, with 125 points more to take.
+-- Rule 6.2: a point that does not differ needs no packet; one that does opens one: 6 bytes and its own 4, with 125 points more to
+-- take.
 abbrev pub least : Bool → List ℕ → ℕ
 least d r = cond d (10 + best 125 r) (best 0 r)
 
@@ -29,12 +30,12 @@ least d r = cond d (10 + best 125 r) (best 0 r)
 abbrev pub push : Bool → List ℕ → List ℕ
 push d r = least d r ∷ r
 
--- "working room holds at each index i below N the least bytes for the points from i on": N + 1 numbers, the last one 0.
+-- Rule 6.5: at each point's index, the bytes that it and those behind it need at least: N + 1 numbers, the last one 0.
 unfoldable pub rooms : List Bool → List ℕ
 rooms [] = 0 ∷ []
 rooms (d ∷ ds) = push d (rooms ds)
 
--- How many points more the open packet takes, of at most k: the smallest number that costs least.
+-- Rule 6.2: how many points more the open packet takes, of at most k: the smallest number that costs least.
 unfoldable pub more : ℕ → List ℕ → ℕ
 more zero r = 0
 more (suc k) [] = 0
@@ -46,8 +47,9 @@ more (suc k) (x ∷ r) = cond (leb x (4 + best k r)) 0 (suc (more k r))
 abbrev pub roomAt : List Bool → ℕ → ℕ
 roomAt ds i = getD (rooms ds) i 0
 
--- At a point that differs, ds being the points behind it: a packet of count points costs 6 + 4 × count and what is left behind it. Of the counts
--- from 1 to 126 within the map the room's number is the least, and this count is the smallest that attains it.
+-- Rule 6.2: at a point that differs, ds being the points behind it: a packet of count points costs 6 + 4 × count and what is left
+-- behind it. Of the counts from 1 to 126 within the map the room's number is the least, and this count is the smallest that
+-- attains it.
 pub record SmallestCount (ds : List Bool) (count : ℕ) : Type 0 where
   pub some : 1 ≤ count
   pub few : count ≤ 126

@@ -1,4 +1,4 @@
--- Worked examples of plans: the counts of the plan for points that differ or not, and its bytes.
+-- Rule 6.2 at work: the counts of the plan for points that differ or not, and its bytes.
 use Prim.Native.Nat.{ℕ}
 use mathlib.Core.Path.{_≡_}
 use mathlib.Core.Bool.{Bool, true, false}
@@ -12,7 +12,7 @@ pub record PlanExample (ds : List Bool) (packets : List ℕ) (bytes : ℕ) : Typ
   pub total : cost (planFrom 0 0 ds) ≡ bytes
 
 pub record Examples : Type 0 where
-  -- Points 0 and 2 differ: one packet. Points 0 and 3: two.
+  -- Rule 8.1: points 0 and 2, in one packet; points 0 and 3, in two.
   pub near : PlanExample (true ∷ false ∷ true ∷ []) (3 ∷ []) 18
   pub apart : PlanExample (true ∷ false ∷ false ∷ true ∷ []) (1 ∷ 1 ∷ []) 20
   -- All of 128 points differ but one: 63 and 64 points, and not 126 of them filled from the left.

@@ -1,4 +1,4 @@
--- Upload planning: the plan that document 01 fixes, its batch, and the judge of lists of packets.
+-- Upload planning: the plan that rule 6.2 fixes, its batch, and the judge of lists of packets.
 pub mod Cost
 pub mod Plan
 pub mod Judge

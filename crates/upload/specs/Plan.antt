@@ -1,4 +1,4 @@
--- Document 01, "Upload plan": "the plan is a list of (start, count), count 1-126, rising, not overlapping."
+-- Rules 6.1 to 6.3: the plan, its parts of start and count, and its packets.
 use Prim.Native.Nat.{ℕ, zero, suc, _+_, _*_}
 use mathlib.Core.Bool.{Bool, true, false}
 use mathlib.Core.List.{List, [], _∷_, _++_, map}
@@ -8,12 +8,12 @@ use Rattle.wire.specs.Tables.{bytes}
 use Rattle.packet.specs.Making.{packetOf}
 use Rattle.upload.specs.Cost.{differs, rooms, more}
 
--- One packet of a plan.
+-- Rule 6.1: one packet of a plan.
 pub record Part : Type 0 where
   pub start : ℕ
   pub count : ℕ
 
--- From point i on, with k points more in the open packet.
+-- Rule 6.2, from point i on, with k points more in the open packet.
 unfoldable pub planFrom : ℕ → ℕ → List Bool → List Part
 planFrom i k [] = []
 planFrom i (suc k) (d ∷ ds) = planFrom (suc i) k ds
@@ -21,19 +21,21 @@ planFrom i zero (false ∷ ds) = planFrom (suc i) zero ds
 planFrom i zero (true ∷ ds) =
     record { start = i; count = suc (more 125 (rooms ds)) } ∷ planFrom (suc i) (more 125 (rooms ds)) ds
 
+-- Rule 6.2: the plan for a map held and one wanted.
 unfoldable pub planOf : List ℕ → List ℕ → List Part
 planOf held wanted = planFrom 0 0 (differs held wanted)
 
--- "Its bytes are the sum of 6 + 4 × count."
+-- Rule 6.1: 6 bytes for each packet and 4 for each of its points.
 unfoldable pub cost : List Part → ℕ
 cost [] = 0
 cost (p ∷ ps) = 6 + 4 * p .count + cost ps
 
--- A part's packet, "header 14h, with wanted's points".
+-- Rule 6.3: a part's packet: header 14h, length, start, and wanted's points.
 unfoldable pub packetFor : List ℕ → Part → List ℕ
 packetFor wanted p =
     packetOf 0x34 0x10 (wordBytes (p .start) ++ bytes (take (2 * p .count) (drop (2 * p .start) wanted)))
 
+-- Rule 6.3: the packets of the plan, in order.
 unfoldable pub packetsOf : List ℕ → List ℕ → List (List ℕ)
 packetsOf held wanted = map (packetFor wanted) (planOf held wanted)
 
@@ -41,11 +43,11 @@ unfoldable pub joined : List (List ℕ) → List ℕ
 joined [] = []
 joined (p ∷ ps) = p ++ joined ps
 
--- "The batch is the plan's packets back to back".
+-- Rule 6.3: the packets of the plan, one behind the other.
 unfoldable pub batchOf : List ℕ → List ℕ → List ℕ
 batchOf held wanted = joined (packetsOf held wanted)
 
--- The plan's numbers as they are lent: start and count in turn.
+-- Rule 6.4: the plan's numbers as they are lent: start and count in turn.
 unfoldable pub planNumbers : List Part → List ℕ
 planNumbers [] = []
 planNumbers (p ∷ ps) = p .start ∷ p .count ∷ planNumbers ps

@@ -1,7 +1,4 @@
--- What planning answers, and what it leaves in the lent lists. Document 01, "Upload plan": "Refusals: N out of range 10; else 1 if held or
--- wanted isn't 2N long, the plan isn't 3,968 16-bit numbers, working room isn't 1,985 numbers of 32 bits, or the batch buffer is under 8,032
--- bytes; nothing is changed. After success, plan and batch beyond their used parts are unchanged, and working room holds at each index i below
--- N the least bytes for the points from i on, and 0 from N on."
+-- Rules 6.4 and 6.5: what planning answers, and what it leaves in the lent lists.
 use Prim.Native.Nat.{ℕ, _+_, _-_, _*_, _/_, _≤_, _<_}
 use mathlib.Core.Path.{_≡_}
 use mathlib.Core.Logic.{_↔_}
@@ -26,11 +23,11 @@ pub record Sheets : Type 0 where
 abbrev pub sheets : List ℕ → List ℕ → List ℕ → Sheets
 sheets plan room batch = record { plan = plan; room = room; batch = batch }
 
--- 10: "N points, 1-1,984".
+-- Rule 6.4, 10: a map has 1 to 1,984 points.
 abbrev pub pointsWrong : ℕ → Bool
 pointsWrong n = eqb n 0 || ltb 1984 n
 
--- 1: lengths, for so many numbers (or bytes) a point, in the plan and in the room.
+-- Rule 6.4, 1: lengths, for so many numbers (or bytes) a point, in the plan and in the room.
 abbrev pub lengthsWrong : ℕ → ℕ → ℕ → ℕ → List ℕ → List ℕ → Sheets → Bool
 lengthsWrong each plans places n held wanted s =
     not
@@ -40,15 +37,16 @@ lengthsWrong each plans places n held wanted s =
     && eqb (length (s .room)) places
     && leb 8032 (length (s .batch)))
 
+-- Rule 6.4: 10 is tried first.
 abbrev pub refusalsWith : ℕ → ℕ → ℕ → ℕ → List ℕ → List ℕ → Sheets → List (ℕ × Bool)
 refusalsWith each plans places n held wanted s =
     (10, pointsWrong n) ∷ (1, lengthsWrong each plans places n held wanted s) ∷ []
 
--- Maps and plan of 16-bit numbers, room of 32-bit ones.
+-- Rule 6.4: maps and plan of 16-bit numbers, room of 32-bit ones.
 abbrev pub planRefusals : ℕ → List ℕ → List ℕ → Sheets → List (ℕ × Bool)
 planRefusals = refusalsWith 2 3968 1985
 
--- "The answer gives the number of packets and the batch's length, both 0 on a refusal."
+-- Rule 6.4: the status, then how many packets and how many bytes, 0 and 0 if refused. Then the lists, as they are left.
 pub record PlanOut : Type 0 where
   pub status : ℕ
   pub packets : ℕ
@@ -58,12 +56,13 @@ pub record PlanOut : Type 0 where
 abbrev pub planOut : ℕ → ℕ → ℕ → Sheets → PlanOut
 planOut status packets bytes s = record { status = status; packets = packets; bytes = bytes; left = s }
 
--- The room of N points: N + 1 numbers, and 0 up to the end.
+-- Rule 6.5: the room of N points: N + 1 numbers, and 0 up to the end.
 abbrev pub roomOf : ℕ → List ℕ → List ℕ → List ℕ
 roomOf n held wanted = rooms (differs held wanted) ++ replicate (1984 - n) 0
 
--- "the least bytes for the points from i on", which are taken as a map of their own: the bytes of the batch for them. Some list of packets that turns
--- these points of held into those of wanted has just so many bytes, and every such list has at least as many.
+-- Rule 6.5: what a number of the room means. The points from i on are taken as a map of their own: the bytes of the batch for
+-- them. Some list of packets that turns these points of held into those of wanted has just so many bytes, and no such list has
+-- fewer.
 pub record LeastFrom (n : ℕ) (held wanted : List ℕ) (i number : ℕ) : Type 0 where
   pub batch : number ≡ length (batchOf (drop (2 * i) held) (drop (2 * i) wanted))
   pub packets : List (List ℕ)
@@ -71,12 +70,13 @@ pub record LeastFrom (n : ℕ) (held wanted : List ℕ) (i number : ℕ) : Type 
   pub total : totalBytes packets ≡ number
   pub least : (ps : List (List ℕ)) → Turns (n - i) (drop (2 * i) held) (drop (2 * i) wanted) ps → number ≤ totalBytes ps
 
--- "working room holds at each index i below N the least bytes for the points from i on, and 0 from N on." It holds 1,985 numbers.
+-- Rule 6.5: the room after success, of 1,985 numbers.
 pub record RoomMeans (n : ℕ) (held wanted room : List ℕ) : Type 0 where
   pub long : n ≤ 1984 → length room ≡ 1985
   pub below : (i : ℕ) → i ≤ n → LeastFrom n held wanted i (getD room i 0)
   pub beyond : (i : ℕ) → n ≤ i → i < 1985 → getD room i 0 ≡ 0
 
+-- Rules 6.4 and 6.5: plan and batch are written over the start of their lists, the room is filled; a refusal leaves all three.
 abbrev pub plannedBy : ℕ → ℕ → List ℕ → List ℕ → Sheets → PlanOut
 plannedBy number n held wanted s =
     cond (eqb number 0)
@@ -85,17 +85,18 @@ plannedBy number n held wanted s =
     (over (batchOf held wanted) (s .batch))))
     (planOut number 0 0 s)
 
+-- Rule 6.4.
 unfoldable pub planned : ℕ → List ℕ → List ℕ → Sheets → PlanOut
 planned n held wanted s = plannedBy (first (planRefusals n held wanted s)) n held wanted s
 
 -- What planning takes and which refusal it gives, said a second time and apart from the tests above.
 
--- The numbers of points that a map may have.
+-- Rule 6.1: the numbers of points that a map may have.
 pub record PointsRight (n : ℕ) : Type 0 where
   pub some : 1 ≤ n
   pub few : n ≤ 1984
 
--- The lengths that planning asks for: so many numbers (or bytes) a point, in the plan and in the room, and a batch that
+-- Rule 6.4: the lengths that planning asks for: so many numbers (or bytes) a point, in the plan and in the room, and a batch that
 -- holds any upload.
 pub record ListsRight (each plans places n : ℕ) (held wanted : List ℕ) (s : Sheets) : Type 0 where
   pub held-long : length held ≡ each * n
@@ -104,26 +105,26 @@ pub record ListsRight (each plans places n : ℕ) (held wanted : List ℕ) (s : 
   pub room-long : length (s .room) ≡ places
   pub batch-long : 8032 ≤ length (s .batch)
 
--- Maps and plan of 16-bit numbers, room of 32-bit ones.
+-- Rule 6.4: maps and plan of 16-bit numbers, room of 32-bit ones.
 abbrev pub NumbersRight : ℕ → List ℕ → List ℕ → Sheets → Type 0
 NumbersRight = ListsRight 2 3968 1985
 
--- The same as bytes.
+-- Rule 1.3: the same as bytes.
 abbrev pub BytesRight : ℕ → List ℕ → List ℕ → Sheets → Type 0
 BytesRight = ListsRight 4 7936 7940
 
--- Nothing is refused exactly if points and lists are right; a wrong number of points is 10, whatever the lists; else a
+-- Rule 6.4: nothing is refused exactly if points and lists are right; a wrong number of points is 10, whatever the lists; else a
 -- wrong length is 1; and a refusal leaves all that was lent.
 pub record PlanRefusals (n : ℕ) (Right : Type 0) (before : Sheets) (o : PlanOut) : Type 0 where
   pub exactly : (o .status ≡ 0) ↔ (PointsRight n × Right)
   pub wrong-points : (PointsRight n → ⊥) → o ≡ planOut 10 0 0 before
   pub wrong-length : PointsRight n → (Right → ⊥) → o ≡ planOut 1 0 0 before
 
--- Demand 3 of an answer: the first so many bytes of the batch are packets back to back, as many as answered, that turn held into wanted, all
--- accepted, and every list of packets that turns held into wanted has at least as many bytes.
+-- Rule 7.3, of an answer: the first so many bytes of the batch are packets back to back, as many as answered, that turn held into
+-- wanted, all accepted, and every list of packets that turns held into wanted has at least as many bytes.
 pub record Fewest (n : ℕ) (held wanted : List ℕ) (many size : ℕ) (batch : List ℕ) : Type 0 where
   pub packets : List (List ℕ)
-  -- "The answer gives the number of packets".
+  -- Rule 6.4.
   pub as-many : length packets ≡ many
   pub back-to-back : joined packets ≡ take size batch
   pub accepted : AllAccepted n packets
@@ -131,24 +132,24 @@ pub record Fewest (n : ℕ) (held wanted : List ℕ) (many size : ℕ) (batch : 
   pub total : totalBytes packets ≡ size
   pub least : (ps : List (List ℕ)) → Turns n held wanted ps → size ≤ totalBytes ps
 
--- The lent list begins with the plan: a list of (start, count), as many as answered, that document 01 chooses, and it chooses no other.
+-- Rule 6.2: the lent list begins with the plan: a list of (start, count), as many as answered, that is chosen, and no other is.
 pub record PlanChosen (n : ℕ) (held wanted : List ℕ) (many size : ℕ) (plan batch : List ℕ) : Type 0 where
   pub parts : List Part
-  -- "The answer gives the number of packets".
+  -- Rule 6.4.
   pub as-many : length parts ≡ many
   pub numbers : planNumbers parts ≡ take (2 * many) plan
-  -- "Among the cheapest such lists that turn held into wanted take the one whose first count is smallest, then the second, and so on."
+  -- Rule 6.2.
   pub chosen : Chosen n held wanted parts
   pub only : (qs : List Part) → Chosen n held wanted qs → qs ≡ parts
-  -- "Its bytes are the sum of 6 + 4 × count."
+  -- Rule 6.1.
   pub total : cost parts ≡ size
-  -- "The bytes never exceed 4N + 6 × (N / 126 rounded up): 8,032 for a full map."
+  -- Rule 6.2: the bound on bytes, 8,032 where the map is full.
   pub bound : size ≤ 4 * n + 6 * ((n + 125) / 126)
-  -- The batch is these parts' packets back to back.
+  -- Rule 6.3: the batch is these parts' packets back to back.
   pub sent : joined (map (packetFor wanted) parts) ≡ take size batch
 
--- The promise of planning: its answer and every lent list, and which refusal it gives; and unless it is refused,
--- demand 3 of the byte count answered, what the lent plan and room hold, and that equal maps give no packet.
+-- The promise of planning: its answer and every lent list, and which refusal it gives; and unless it is refused, rule 7.3 of the
+-- byte count answered, what the lent plan and room hold, and that equal maps give no packet (rule 6.2).
 pub record Planned (n : ℕ) (held wanted : List ℕ) (before : Sheets) (o : PlanOut) : Type 0 where
   pub outcome : o ≡ planned n held wanted before
   pub refusals : PlanRefusals n (NumbersRight n held wanted before) before o
@@ -156,11 +157,11 @@ pub record Planned (n : ℕ) (held wanted : List ℕ) (before : Sheets) (o : Pla
   pub plan : o .status ≡ 0 → PlanChosen n held wanted (o .packets) (o .bytes) (o .left .plan) (o .left .batch)
   pub room : o .status ≡ 0 → RoomMeans n held wanted (o .left .room)
   pub equal : o .status ≡ 0 → held ≡ wanted → (o .packets ≡ 0) × (o .bytes ≡ 0)
-  -- Plan and batch beyond their used parts are as they were.
+  -- Rule 6.5: plan and batch behind what is used are as they were.
   pub plan-behind : drop (2 * o .packets) (o .left .plan) ≡ drop (2 * o .packets) (before .plan)
   pub batch-behind : drop (o .bytes) (o .left .batch) ≡ drop (o .bytes) (before .batch)
 
--- ---- Lists lent as bytes: "the answers are those of the entries on wider numbers".
+-- ---- Lists lent as bytes, rule 1.3: the answers are the same.
 
 abbrev pub sheetsIn : Sheets → Sheets
 sheetsIn s = sheets (words (s .plan)) (longs (s .room)) (s .batch)
@@ -171,17 +172,19 @@ sheetBytes s = sheets (bytes (s .plan)) (longBytes (s .room)) (s .batch)
 abbrev pub bytePlanOut : PlanOut → PlanOut
 bytePlanOut o = planOut (o .status) (o .packets) (o .bytes) (sheetBytes (o .left))
 
+-- Rules 1.3 and 6.4.
 abbrev pub bytePlanRefusals : ℕ → List ℕ → List ℕ → Sheets → List (ℕ × Bool)
 bytePlanRefusals = refusalsWith 4 7936 7940
 
+-- Rules 1.3 and 6.4: a refusal leaves every byte; else what planning on the numbers in these bytes gives.
 unfoldable pub plannedBytes : ℕ → List ℕ → List ℕ → Sheets → PlanOut
 plannedBytes n held wanted s =
     cond (eqb (first (bytePlanRefusals n held wanted s)) 0)
     (bytePlanOut (planned n (words held) (words wanted) (sheetsIn s)))
     (planOut (first (bytePlanRefusals n held wanted s)) 0 0 s)
 
--- The promise of planning on bytes: its answer and every lent list, and which refusal it gives; and unless it is
--- refused, what is left holds what planning on the numbers in these bytes gives, with all that it promises.
+-- Rule 1.3, the promise of planning on bytes: its answer and every lent list, and which refusal it gives; and unless it is refused,
+-- what is left holds what planning on the numbers in these bytes gives, with all that it promises.
 pub record PlannedBytes (n : ℕ) (held wanted : List ℕ) (before : Sheets) (o : PlanOut) : Type 0 where
   pub outcome : o ≡ plannedBytes n held wanted before
   pub refusals : PlanRefusals n (BytesRight n held wanted before) before o

@@ -1,4 +1,4 @@
--- "exported extern "C" entries .. return a status and length packed in a number". Every answer is 64 bits; docs/INTERFACE.md has the table.
+-- How the C entries pack an answer, status and lengths, into one number of 64 bits; docs/INTERFACE.md has the table.
 use Prim.Native.Nat.{ℕ, _+_, _*_, _/_, _%_}
 use mathlib.Core.Path.{_≡_}
 use mathlib.Core.Bool.{Bool, cond}
@@ -11,7 +11,7 @@ use Rattle.reply.specs.Reading.{ReplyAnswer, replyReading, ReplyRead}
 use Rattle.controller8.specs.Bytes.{Lent, LentOut, lentOut, stepBytes, HandledBytes}
 use Rattle.upload.specs.Planning.{Sheets, PlanOut, planOut, plannedBytes, PlannedBytes}
 
--- ---- Reading.
+-- ---- Reading, rule 2.6.
 
 -- The refusal in bits 0-7; opcode in 8-15, header bits 3-7 in place in 16-23, offset of the data in 24-31, data length from 32 on. An answer
 -- that is a refusal has 0 in all of these.
@@ -34,7 +34,7 @@ pub record PackedRead (p : List ℕ) (answer : ℕ) : Type 0 where
   pub packed : answer ≡ packedReading (reading p)
   pub promise : PacketRead p (readingIn answer)
 
--- ---- Making.
+-- ---- Making, rule 4.4.
 
 -- Status in bits 0-7, the packet's length from 8 on.
 abbrev pub packedMade : Made → ℕ
@@ -47,7 +47,7 @@ pub record PackedMake (op options : ℕ) (d buffer : List ℕ) (answer : ℕ) (l
   pub packed : answer ≡ packedMade (made op options d buffer)
   pub promise : PacketMade op options d buffer (madeIn answer left)
 
--- ---- Reading a reply.
+-- ---- Reading a reply, rule 3.5.
 
 -- The refusal in bits 0-7, the reply's status in 8-15, its data length from 16 on.
 abbrev pub packedReply : ReplyAnswer → ℕ
@@ -62,7 +62,7 @@ pub record PackedReplyRead (r : List ℕ) (sum : Bool) (answer : ℕ) : Type 0 w
   pub packed : answer ≡ packedReply (replyReading r sum)
   pub promise : ReplyRead r sum (replyIn answer)
 
--- ---- One packet on a state.
+-- ---- One packet on a state, rule 3.4.
 
 -- Status in bits 0-7, the reply's length from 8 on.
 abbrev pub packedOut : LentOut → ℕ
@@ -74,11 +74,11 @@ outIn n left reply = lentOut (n % 256) (n / 256) left reply
 -- The answer and every lent list; and all that is demanded of a packet, of the status and the reply's length that C reads in the answer.
 pub record PackedHandled (p : List ℕ) (l : Lent) (reply : List ℕ) (answer : ℕ) (left : Lent) (after : List ℕ) : Type 0 where
   pub packed : answer ≡ packedOut (stepBytes p l reply)
-  -- A status other than 0 leaves block, staged, live and gains, byte for byte, as they were.
+  -- Rule 4.2: a status other than 0 leaves block, staged, live and gains, byte for byte, as they were.
   pub unchanged : (answer % 256 ≡ 0 → ⊥) → left ≡ l
   pub promise : HandledBytes p l reply (outIn answer left after)
 
--- ---- Planning.
+-- ---- Planning, rule 6.4.
 
 -- Planning: the refusal in bits 0-7, the number of packets in 8-31, the batch's bytes from 32 on.
 abbrev pub packedPlan : PlanOut → ℕ

@@ -3,6 +3,6 @@ use Prim.Native.Nat.{ℕ}
 use mathlib.Core.List.{List, _++_}
 use lib.ListN.{length, drop}
 
--- A buffer with bytes written over its start, "the buffer past it unchanged".
+-- Rules 4.2, 4.4 and 6.5: a buffer with bytes written over its start; what lies behind them stays.
 unfoldable pub over : List ℕ → List ℕ → List ℕ
 over s buffer = s ++ drop (length s) buffer

@@ -1,4 +1,4 @@
--- Document 01, "Packet": "We send the sum of all earlier bytes, modulo 256 (house)." Packets and replies share it.
+-- Rule 2.5: the sum of the bytes before it, modulo 256. Packets and replies share it.
 use Prim.Native.Nat.{ℕ, _+_, _%_}
 use mathlib.Core.Bool.{Bool, cond}
 use mathlib.Core.List.{List, [], _∷_, _++_}
@@ -7,9 +7,10 @@ unfoldable pub total : List ℕ → ℕ
 total [] = 0
 total (x ∷ r) = x + total r
 
+-- Rule 2.5.
 unfoldable pub checksum : List ℕ → ℕ
 checksum s = total s % 256
 
--- The bytes, and behind them their checksum if there is to be one.
+-- Rules 2.1 and 3.1: the bytes, and behind them their checksum if there is to be one.
 abbrev pub sealed : Bool → List ℕ → List ℕ
 sealed sum s = s ++ cond sum (checksum s ∷ []) []

@@ -1,4 +1,4 @@
--- Numbers in bytes. Document 01, "Packet": "All numbers low byte first."
+-- Rule 2.3: numbers in bytes, the low byte first.
 use Prim.Native.Nat.{ℕ, _+_, _*_, _/_, _%_}
 use mathlib.Core.List.{List, [], _∷_}
 use lib.ListN.{getD}

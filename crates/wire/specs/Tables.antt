@@ -1,4 +1,4 @@
--- Tables of numbers as their bytes. Document 01, "The two ends": "every table, room or plan is lent as its bytes, low byte first".
+-- Rule 1.3: tables of numbers as their bytes, low byte first, as they are lent to C.
 -- One pair of functions serves every width: a number of two digits to the base b, low digit first.
 use Prim.Native.Nat.{ℕ, _+_, _*_, _/_, _%_}
 use mathlib.Core.List.{List, [], _∷_}

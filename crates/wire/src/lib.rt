@@ -7,7 +7,7 @@ ghost use lib.Seq.{paste, sets};
 ghost use Rattle.wire.specs.Numbers.{byteAt, wordAt, longAt, wordBytes};
 ghost use Rattle.wire.specs.Checksum.{«checksum»};
 
-// Why something was refused: document 01's number, 0 where nothing was.
+// Why something was refused: the number of rule 4.1, 0 where nothing was.
 pub struct Refusal {
     pub number: u8,
 }

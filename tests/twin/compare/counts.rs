@@ -63,8 +63,8 @@ pub fn check_inputs(report: &mut Report) {
     report.close("inputs in all", report.inputs >= INPUTS, &format!("{}", report.inputs));
 }
 
-/// Whether a packet of this opcode, direction and set of options can be accepted: a write of 2Bh,
-/// 34h, 35h or 38h without a length field can't.
+/// Whether a packet of this opcode, direction and set of options can be accepted: without a length
+/// field writes of 2Bh, 34h, 35h and 38h can't (rule 4.1, 8).
 fn acceptable(opcode: Opcode, direction: Direction, set: u8) -> bool {
     direction == Direction::Read || !opcode.is_variable() || set & 2 != 0
 }

@@ -24,7 +24,7 @@ fn main() -> ExitCode {
         Ok(report) => Upload::new(report),
         Err(status) => return status,
     };
-    upload.group("bench plans of document 01", uploads::bench_plans);
+    upload.group("bench plans", uploads::bench_plans);
     upload.group("every pattern of up to 12 points", uploads::every_pattern);
     upload.group("every cover of up to 9 points", covers::every_list);
     upload.group("overlaps, repeats and any order, up to 12 points", covers::any_order);

@@ -222,7 +222,7 @@ impl Session {
         }
     }
 
-    /// Every reply of the front end reads back as it was meant.
+    /// Rule 3.6: each reply that was written reads back as it was meant.
     fn read_reply(&mut self, packet: &[u8], answer: Answer) {
         if answer.length == 0 {
             return;

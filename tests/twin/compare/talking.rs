@@ -137,8 +137,8 @@ fn count(data: &[u8], opcode: Opcode, direction: Direction) -> usize {
     }
 }
 
-/// Sends a 34h or 2Bh command whose start and count run past their table: by one, by more, or so
-/// that a sum in 16 bits wraps.
+/// Sends a 34h or 2Bh command whose start + count goes past the end of the table: by one, by more,
+/// or so that a sum in 16 bits wraps.
 fn past_table(session: &mut Session) {
     let random = &mut session.random;
     let (opcode, direction) = (random.pick(&[Opcode::Map, Opcode::Gains]), random.pick(&Direction::BOTH));

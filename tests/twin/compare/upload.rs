@@ -247,9 +247,9 @@ impl Upload {
         counts.tied += u64::from(tied);
     }
 
-    /// The judge of demand 3: what reading gives as a 34h write with start + n ≤ N sets its points.
-    /// Every packet has to be such a write, the starts rise and nothing overlaps, and the last map is
-    /// the one wanted.
+    /// The judge of rule 7.1: a packet read as a 34h write, with start + count at most N, sets its
+    /// points. Every packet has to be such a write, the starts rise and nothing overlaps, and the last
+    /// map is the one wanted.
     fn read_all(&mut self, held: &[u8], wanted: &[u8], outcome: &Outcome, packets: &[&[u8]]) {
         let mut map = held.to_vec();
         let mut end = 0;

@@ -89,7 +89,7 @@ fn plan_differing(
     (outcome.plan, outcome.bytes)
 }
 
-/// Document 01's own plans.
+/// The plans of rule 8.1, and larger ones by hand.
 pub fn bench_plans(upload: &mut Upload) {
     let mut due = |points: usize, differs: &dyn Fn(usize) -> bool, plan: &[(usize, usize)], bytes: usize| {
         let found = plan_differing(upload, points, differs);

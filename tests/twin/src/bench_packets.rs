@@ -1,4 +1,4 @@
-//! The bench packets of document 01, and more by hand, on the twin itself.
+//! The bench packets of rule 8.1, and more by hand, on the twin itself.
 
 use crate::block;
 use crate::command::{Colour, Command, Direction, Opcode, Read, Target, Write};
@@ -184,7 +184,7 @@ fn live_stays_when_staged_changes() {
     assert_eq!((settings.live.columns, settings.live.rows), (3, 4));
     assert_eq!((settings.staged.columns, settings.staged.rows), (2, 2));
     assert!(!settings.enable);
-    // Staged points keep their index when the shape shrinks.
+    // Staged points keep their index when the shape shrinks (rule 5.5).
     assert_eq!(memory.staged[20..24], [7, 0, 7, 0]);
 }
 
@@ -280,7 +280,7 @@ fn a_setting_out_of_range_is_refused_first() {
         (&[(9, 61)], 0),
         (&[(9, 1)], 1),
         (&[(11, 1)], 1),
-        // In mode 1 any shape but 62 × 32.
+        // Mode 1 takes no shape but 62 × 32.
         (&[(8, 1), (9, 61)], 1),
         (&[(8, 1), (11, 31)], 1),
         // Lists not rising: the first entry, the last, equal to the one beside it.

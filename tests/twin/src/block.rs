@@ -1,4 +1,4 @@
-//! The settings block: 1,024 bytes, lent with each call.
+//! The settings block (docs/LAYOUT.md): 1,024 bytes, lent with each call.
 //!
 //! In opcode order, each command's fields in the order of its write data (without the pin or port
 //! byte). Bytes 865 to 1023 have no meaning.
@@ -56,7 +56,7 @@ fn entry(first: usize, size: usize, index: usize) -> Range<usize> {
     start..start + size
 }
 
-/// Refusal 1: each field that has a meaning lies in its range.
+/// Refusal 1 (rule 4.1): each field that has a meaning lies in its range.
 pub fn judge(block: &[u8; BYTES]) -> Result<(), OutOfRange> {
     let fields = &mut Fields::new(block);
     within(fields.byte(), 0..=4)?; // display
@@ -86,7 +86,7 @@ pub fn judge(block: &[u8; BYTES]) -> Result<(), OutOfRange> {
     Ok(())
 }
 
-/// Mode 0 with columns 2-62 and rows 2-32, or mode 1 with 62 × 32; lists rising in either mode.
+/// Mode 0 with 2-62 columns and 2-32 rows, or mode 1 with 62 × 32; lists rising in either mode.
 fn judge_shape(fields: &mut Fields) -> Result<(), OutOfRange> {
     let (columns, rows) = if fields.flag()? { (COLUMNS, ROWS) } else { (2, 2) };
     within(fields.word().into(), columns..=COLUMNS)?;

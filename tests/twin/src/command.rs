@@ -1,5 +1,4 @@
-//! The eighteen commands of document 01 ("Commands carried") as types, and how their data is read
-//! and written.
+//! The eighteen commands of rule 5.1 as types, and how their data is read and written.
 
 use crate::fields::{within, Fields, OutOfRange, Word};
 use crate::refusal::Refusal;
@@ -72,12 +71,12 @@ impl Opcode {
         self as u8
     }
 
-    /// The opcode of this number; none (refusal 7) if it isn't carried.
+    /// The opcode of this number; none (refusal 7) if it is not carried.
     pub fn find(number: u16) -> Option<Opcode> {
         *BY_NUMBER.get(usize::from(number))?
     }
 
-    /// Whether a write needs a length field (refusal 8).
+    /// Whether a write needs a length field (rule 4.1, 8).
     pub fn is_variable(self) -> bool {
         matches!(self, Opcode::Gains | Opcode::Map | Opcode::ControlPoints | Opcode::SmoothTable)
     }
@@ -102,7 +101,7 @@ pub enum Target {
 }
 
 impl Target {
-    /// 0 all, 1-3 one colour.
+    /// Rule 5.8: 0 all three, 1-3 one colour.
     fn from_byte(byte: u8) -> Result<Self, OutOfRange> {
         match byte {
             0 => Ok(Target::All),
@@ -118,7 +117,7 @@ impl Target {
     }
 }
 
-/// 1 red, 2 green, 3 blue (house).
+/// Rule 5.8: 1 red, 2 green, 3 blue.
 #[derive(Clone, Copy, Debug, PartialEq, Eq)]
 #[repr(u8)]
 pub enum Colour {
@@ -142,9 +141,9 @@ pub enum Write<'a> {
     Display(u8),
     /// 12h.
     LowLatency(bool),
-    /// 13h: look, any 16-bit.
+    /// 13h: look, any 16-bit number.
     Look(u16),
-    /// 1Ah: colour 0, 2-8.
+    /// 1Ah: curtain colour 0, 2-8.
     CurtainColour(u8),
     /// 1Bh: any byte.
     SplashImage(u8),
@@ -152,15 +151,15 @@ pub enum Write<'a> {
     Flip(u8),
     /// 1Dh.
     Freeze(bool),
-    /// 2Bh: as many words, 0-8191, as the packet counts, uncompressed.
+    /// 2Bh, rule 5.8: as many words, 0-8191, as the packet counts, uncompressed.
     Gains { target: Target, start: u16, words: &'a [Word] },
-    /// 34h: one point or more.
+    /// 34h, rule 5.4: one point or more.
     Map { start: u16, points: &'a [Point] },
-    /// 35h.
+    /// 35h, rule 5.5.
     ControlPoints(ControlPoints<'a>),
-    /// 36h.
+    /// 36h, rule 5.6.
     Apply(bool),
-    /// 38h: columns and rows 3-5, then exactly columns × rows points.
+    /// 38h, rule 5.7: columns 3-5, rows 3-5, and a point for each of columns × rows.
     SmoothTable { columns: u8, rows: u8, points: &'a [Point] },
     /// 39h: only mode 0 is carried.
     UpdateMode,
@@ -178,7 +177,7 @@ pub enum Write<'a> {
 
 impl<'a> Write<'a> {
     /// A write's data as what it asks for: refusals 9, 10 and 11, in this order, with the
-    /// exceptions that document 01 makes under 35h, 38h and 2Bh.
+    /// exceptions of rules 5.8 and 5.9 for 2Bh, 35h and 38h.
     pub fn parse(opcode: Opcode, data: &'a [u8]) -> Result<Self, Refusal> {
         Ok(match opcode {
             Opcode::Display => Write::Display(within(sized(data, 1)?.byte(), 0..=4)?),
@@ -218,8 +217,8 @@ impl<'a> Write<'a> {
         })
     }
 
-    /// 2Bh: compression, colour, count, start, words. Count 0 is refusal 10; flag 1 is refusal 11
-    /// before any word is judged.
+    /// 2Bh, rule 5.8: compression, colour, count, start, words. A count of 0 is out of range; with
+    /// flag 1 it is refusal 11, whatever the words.
     fn parse_gains(data: &'a [u8]) -> Result<Self, Refusal> {
         let (head, words) = data.split_at_checked(6).ok_or(Refusal::Size)?;
         let mut fields = Fields::new(head);
@@ -241,7 +240,7 @@ impl<'a> Write<'a> {
         Ok(Write::Gains { target, start, words })
     }
 
-    /// 34h: start, then n ≥ 1 points of 4 bytes.
+    /// 34h, rule 5.9: a start, and one point or more of 4 bytes.
     fn parse_map(data: &'a [u8]) -> Result<Self, Refusal> {
         if data.len() < 6 || data.len() % 4 != 2 {
             return Err(Refusal::Size);
@@ -250,7 +249,7 @@ impl<'a> Write<'a> {
         Ok(Write::Map { start: fields.word(), points: fields.all() })
     }
 
-    /// 35h: a write without its mode byte is refusal 9, a mode above 1 is refusal 10 whatever the
+    /// 35h, rule 5.9: with no byte it is refusal 9; a mode above 1 is refusal 10, whatever the
     /// size.
     fn parse_control_points(data: &'a [u8]) -> Result<Self, Refusal> {
         let (mode, rest) = data.split_first().ok_or(Refusal::Size)?;
@@ -261,8 +260,8 @@ impl<'a> Write<'a> {
         }))
     }
 
-    /// 38h: a write without both its counts is refusal 9, columns or rows out of range are refusal
-    /// 10 whatever the size.
+    /// 38h, rule 5.9: with under 2 bytes it is refusal 9; columns or rows outside 3-5 are refusal
+    /// 10, whatever the size.
     fn parse_smooth_table(data: &'a [u8]) -> Result<Self, Refusal> {
         let (counts, points) = data.split_at_checked(2).ok_or(Refusal::Size)?;
         let columns = within(counts[0], 3..=5)?;
@@ -333,13 +332,13 @@ pub enum Read {
     SplashImage,
     Flip,
     Freeze,
-    /// 2Bh (house): colour 1-3, count 1-254.
+    /// 2Bh, rule 5.8: colour 1-3, count 1-254.
     Gains {
         colour: Colour,
         start: u16,
         count: u16,
     },
-    /// 34h: count 1-127, of staged points.
+    /// 34h, rule 5.4: count 1-127, of staged points.
     Map {
         start: u16,
         count: u16,

@@ -1,16 +1,17 @@
-//! Numbers in bytes, low byte first, and the checksum.
+//! Numbers in bytes, low byte first (rule 2.3), and the checksum.
 
 use std::ops::RangeInclusive;
 
 /// A 16-bit number as it lies in packets, tables and the block.
 pub type Word = [u8; 2];
 
-/// The sum of the bytes, modulo 256 ("Packet": house rule for the one byte sent).
+/// Rule 2.5: the sum of the bytes, modulo 256.
 pub fn checksum(bytes: &[u8]) -> u8 {
     bytes.iter().fold(0, |sum, byte| sum.wrapping_add(*byte))
 }
 
-/// A value is out of range or reserved. In a packet this is refusal 10, in a setting refusal 1.
+/// Some value is out of its range, or reserved. In a packet this is refusal 10, in a setting
+/// refusal 1.
 #[derive(Clone, Copy, Debug, PartialEq, Eq)]
 pub struct OutOfRange;
 

@@ -1,4 +1,4 @@
-//! The front end: one packet in, one reply or none out, and reset.
+//! The front end: takes a packet and gives a reply or none (rule 1.1); and reset.
 //!
 //! Settings, staged map, live map and gains are the host's, lent as bytes with each call. They are
 //! judged, read and written where they lie.
@@ -19,7 +19,7 @@ pub const MAP_BYTES: usize = 4 * POINTS;
 /// Bytes of the gains.
 pub const GAINS_BYTES: usize = 2 * GAINS * 3;
 
-/// What a host lends with each call. A table is lent as its bytes, low byte first.
+/// What a host lends with each call (rule 1.3). Tables are bytes, low byte first.
 pub struct Lent<'a> {
     pub block: &'a mut [u8],
     pub staged: &'a mut [u8],
@@ -28,15 +28,16 @@ pub struct Lent<'a> {
     pub gains: &'a mut [u8],
 }
 
-/// The answer to one packet: 0 or the refusal's number, and the reply's length, 0 for none.
+/// The answer to one packet (rule 3.4): 0 or the refusal's number, and the length of the reply, 0
+/// where there is none.
 #[derive(Clone, Copy, Debug, PartialEq, Eq)]
 pub struct Answer {
     pub status: u8,
     pub length: usize,
 }
 
-/// "Reset: zeros everywhere, but gains 4096, ..." It writes the whole block and all tables; a wrong
-/// length is refusal 1 and changes nothing.
+/// Reset (rule 5.10): every byte of the block and of the tables. A wrong length is refused with 1,
+/// and nothing changes.
 pub fn reset(lent: Lent) -> Result<(), Refusal> {
     static SETTINGS: LazyLock<Vec<u8>> = LazyLock::new(|| Settings::default().bytes());
     let state = State::of(lent)?;
@@ -49,8 +50,8 @@ pub fn reset(lent: Lent) -> Result<(), Refusal> {
     Ok(())
 }
 
-/// One packet in, one reply or none out. A reply is written exactly if the packet has a first byte,
-/// its bit 7 or bit 6 is set, and the refusal isn't 1; only an accepted read carries data.
+/// One packet. There is a reply exactly if the packet is not empty, bit 6 or bit 7 of its first byte
+/// is set, and the refusal is not 1 (rule 3.2); only an accepted read carries data (rule 3.3).
 pub fn packet(packet: &[u8], lent: Lent, reply: &mut [u8]) -> Answer {
     let Ok(mut state) = State::judged(lent, reply) else {
         return Answer { status: Refusal::Lent.number(), length: 0 };
@@ -84,7 +85,7 @@ struct State<'a> {
 }
 
 impl<'a> State<'a> {
-    /// Refusal 1 for a wrong length, counted in bytes.
+    /// Refusal 1 for a wrong length, counted in bytes (rule 1.3).
     fn of(lent: Lent<'a>) -> Result<Self, Refusal> {
         Ok(State {
             block: lent.block.try_into().map_err(|_| Refusal::Lent)?,
@@ -94,7 +95,7 @@ impl<'a> State<'a> {
         })
     }
 
-    /// Refusal 1: lengths, then every setting. Table contents aren't judged.
+    /// Refusal 1 (rule 4.1): lengths, then every setting. What tables hold is not judged (rule 1.4).
     fn judged(lent: Lent<'a>, reply: &[u8]) -> Result<Self, Refusal> {
         let state = State::of(lent)?;
         if reply.len() < LONGEST || block::judge(state.block).is_err() {
@@ -111,7 +112,7 @@ impl<'a> State<'a> {
         }
     }
 
-    /// A write is taken whole, or (refusal 12) not at all.
+    /// A write is taken whole, or (refusal 12, rule 4.3) not at all.
     fn write(&mut self, write: &Write) -> Result<(), Refusal> {
         let block = &mut *self.block;
         match *write {
@@ -142,7 +143,7 @@ impl<'a> State<'a> {
             }
             Write::Apply(false) => block[block::ENABLE] = 0,
             Write::SmoothTable { columns, rows, points } => {
-                // Stored points past these stay.
+                // Rule 5.7: points stored behind these stay.
                 let smooth = &mut block[block::SMOOTH];
                 smooth[..2].copy_from_slice(&[columns, rows]);
                 smooth[2..][..4 * points.len()].copy_from_slice(points.as_flattened());
@@ -190,14 +191,14 @@ impl<'a> State<'a> {
         Ok([data, &[]])
     }
 
-    /// Columns × rows as staged, which start + count of 34h may not pass.
+    /// Columns × rows as staged, which start + count of 34h may not pass (rule 5.4).
     fn staged_points(&self) -> usize {
         let mut fields = Fields::new(&self.block[block::STAGED][1..block::SHAPE_HEAD]);
         usize::from(fields.word()) * usize::from(fields.word())
     }
 }
 
-/// A 35h write into mode, columns, rows and lists. Mode 0 keeps the two lists stored.
+/// A 35h write into mode, columns, rows and lists (rule 5.5). In mode 0 the stored lists stay.
 fn write_shape(stored: &mut [u8], written: &ControlPoints) {
     let (head, stored_lists) = stored.split_at_mut(block::SHAPE_HEAD);
     let (mode, columns, rows) = match *written {
@@ -212,7 +213,7 @@ fn write_shape(stored: &mut [u8], written: &ControlPoints) {
     head[3..5].copy_from_slice(&rows.to_le_bytes());
 }
 
-/// What a 35h read returns of mode, columns, rows and lists: the written form.
+/// What a 35h read returns of mode, columns, rows and lists: the written form (rule 5.5).
 fn written_shape(stored: &[u8]) -> Data<'_> {
     let (head, lists) = stored.split_at(block::SHAPE_HEAD);
     match head[0] {

@@ -1,8 +1,8 @@
-//! A plain Rust twin of document 01, "Requirements of the front end and its rules".
+//! A plain Rust twin of the rules in docs/RULES.md.
 //!
-//! It is written from that paper as typed commands and settings, and takes no code, table or
-//! constant from the proved library. The programs in `compare/` hold the two against each other
-//! through the C entries.
+//! It is written from that page as typed commands and settings, and takes no code, table or constant
+//! from the proved library. The programs in `compare/` hold the two against each other through the C
+//! entries.
 //!
 //! - [`command`]: the eighteen commands, their data sizes and ranges (refusals 9, 10 and 11);
 //! - [`packet`]: reading (refusals 2 to 11) and making;

@@ -1,4 +1,4 @@
-//! Packets (document 01, "Packet"): header, opcode, length, data, checksum.
+//! Packets (section 2 of docs/RULES.md): header, opcode, length, data, checksum.
 
 use std::ops::Range;
 
@@ -6,13 +6,13 @@ use crate::command::{Command, Direction, Opcode};
 use crate::fields::{checksum, Fields};
 use crate::refusal::Refusal;
 
-/// A packet has at most this many bytes in all.
+/// A packet has at most this many bytes in all (rule 2.1).
 pub const LONGEST: usize = 512;
 
 /// The destination of every command carried.
 const DESTINATION: u8 = 4;
 
-/// The four header options, bits 3 to 6.
+/// The four header options, bits 3 to 6 (rule 2.2).
 #[derive(Clone, Copy, Debug, PartialEq, Eq)]
 pub struct Options {
     pub two_byte_opcode: bool,
@@ -74,8 +74,8 @@ impl Header {
     }
 }
 
-/// What reading ends in, unless it is refused: a command with its four options, and where in the
-/// packet its data is.
+/// What reading ends in (rule 2.6), unless it is refused: a command with its four options, and where
+/// in the packet its data is.
 #[derive(Clone, Debug, PartialEq, Eq)]
 pub struct Reading<'a> {
     pub command: Command<'a>,
@@ -90,7 +90,7 @@ impl Reading<'_> {
     }
 }
 
-/// Reading, apart from all state: refusals 2 to 11, tried in their order.
+/// Reading looks at no state: refusals 2 to 11, tried in their order (rule 4.1).
 pub fn read(packet: &[u8]) -> Result<Reading<'_>, Refusal> {
     let header = Header::from_byte(*packet.first().ok_or(Refusal::TooShort)?);
     let options = header.options;
@@ -116,8 +116,8 @@ pub fn read(packet: &[u8]) -> Result<Reading<'_>, Refusal> {
     Ok(Reading { command, options, place })
 }
 
-/// Packet making: the bytes of the packet in `buffer`, and their number. It refuses with 1 for a
-/// buffer under 512, else with what reading would give: 3, 7, 8, 9, 10 or 11. Of `header` the
+/// Packet making (rule 4.4): the bytes of the packet in `buffer`, and their number. Refusals: 1 if
+/// `buffer` has under 512 bytes, else those of reading: 3, 7, 8, 9, 10, 11. Of `header` the
 /// destination isn't looked at.
 pub fn make(header: Header, opcode: u16, data: &[u8], buffer: &mut [u8]) -> Result<usize, Refusal> {
     if buffer.len() < LONGEST {

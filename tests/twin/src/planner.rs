@@ -1,4 +1,4 @@
-//! Upload planning (document 01, "Upload plan"): the cheapest list of 34h writes that turns one warp
+//! Upload planning (section 6 of docs/RULES.md): the cheapest list of 34h writes that turns one warp
 //! map into another.
 
 use crate::front_end::MAP_BYTES;
@@ -18,7 +18,7 @@ pub const HEAD: usize = 6;
 /// The most points that a packet has room for.
 pub const MOST: usize = (LONGEST - HEAD) / size_of::<Point>();
 
-/// "The bytes never exceed 4N + 6 × (N / 126 rounded up)."
+/// Rule 6.2: no plan takes more bytes.
 pub const fn most_bytes(points: usize) -> usize {
     4 * points + HEAD * points.div_ceil(MOST)
 }
@@ -29,7 +29,7 @@ pub struct Lent<'a> {
     pub wanted: &'a [u8],
     /// Start and count of each packet.
     pub plan: &'a mut [u8],
-    /// The least bytes for the points from each index on.
+    /// Rule 6.5: at each index the fewest bytes for the points behind it, its own among them.
     pub room: &'a mut [u8],
     /// The packets back to back.
     pub batch: &'a mut [u8],
@@ -42,8 +42,8 @@ pub struct Planned {
     pub bytes: usize,
 }
 
-/// Plans the upload of `points` points. Refusals: 10 for their number, else 1 for a lent length;
-/// nothing is changed then. After success plan and batch are unchanged beyond their used parts.
+/// Plans the upload of `points` points. Refusals (rule 6.4): 10 for their number, else 1 for a lent
+/// length; nothing is changed then. After success plan and batch are unchanged behind what is used.
 pub fn plan(points: u32, lent: Lent) -> Result<Planned, Refusal> {
     let points = usize::try_from(points).unwrap_or(usize::MAX);
     if !(1..=POINTS).contains(&points) {
@@ -60,9 +60,9 @@ pub fn plan(points: u32, lent: Lent) -> Result<Planned, Refusal> {
     Ok(write(held, wanted, room, plan, lent.batch))
 }
 
-/// The least bytes for the points from each index on, from the last point back: none behind the
-/// last; a point that doesn't differ needs no packet; at one that does a packet starts, with the
-/// count that costs least together with what is left behind it.
+/// The fewest bytes for each point and those behind it (rule 6.5), from the last point back: none
+/// behind the last; a point that doesn't differ needs no packet; at one that does a packet starts,
+/// with the count that costs least together with what is left behind it.
 fn fill_room(held: &[Point], wanted: &[Point], room: &mut [[u8; 4]]) {
     room[wanted.len()..].fill([0; 4]);
     for start in (0..wanted.len()).rev() {
@@ -87,8 +87,8 @@ pub const fn packet_bytes(count: usize) -> usize {
     HEAD + size_of::<Point>() * count
 }
 
-/// The plan and its packets, header 14h, with wanted's points. "Among the cheapest such lists take
-/// the one whose first count is smallest, then the second, and so on."
+/// The plan and its packets, header 14h, with wanted's points. Rule 6.2: of the counts that cost
+/// least, each packet takes the smallest.
 fn write(
     held: &[Point],
     wanted: &[Point],

@@ -1,32 +1,32 @@
 //! The refusal numbers.
 
-/// Document 01's refusals, in the order in which they are tried.
+/// The refusals of rule 4.1, in the order in which they are tried.
 #[derive(Clone, Copy, Debug, PartialEq, Eq, PartialOrd, Ord)]
 #[repr(u8)]
 pub enum Refusal {
-    /// A lent length is wrong, or a setting lies outside its range.
+    /// What is lent has a wrong length, or a setting is out of its range.
     Lent = 1,
-    /// The packet is shorter than the fields its header announces.
+    /// The packet has fewer bytes than the fields that its header announces.
     TooShort = 2,
-    /// It is over 512 bytes.
+    /// It has more than 512 bytes.
     TooLong = 3,
-    /// The length field differs from the data bytes there.
+    /// The length field is not the number of data bytes.
     Length = 4,
-    /// The checksum differs.
+    /// The checksum is wrong.
     Checksum = 5,
-    /// The destination isn't 4.
+    /// Another destination than 4.
     Destination = 6,
-    /// The opcode isn't carried.
+    /// The opcode is not carried.
     Opcode = 7,
-    /// A write of variable size has no length field.
+    /// A write of variable size lacks its length field.
     LengthMissing = 8,
-    /// The data size is wrong for the command.
+    /// The command does not take data of this size.
     Size = 9,
-    /// A value is out of range or reserved.
+    /// Some value is out of its range, or reserved.
     Range = 10,
-    /// The thing is named but not carried: merge mode, compressed gains.
+    /// Compressed gains or merge mode, which the guides name and which are not carried.
     NotCarried = 11,
-    /// A start and count run past their table.
+    /// Start + count goes past the end of the table.
     PastTable = 12,
 }
 

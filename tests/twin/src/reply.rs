@@ -1,4 +1,4 @@
-//! Replies (document 01, "Reply"): status, two-byte data length, data, checksum.
+//! Replies (section 3 of docs/RULES.md): status, two-byte data length, data, checksum.
 
 use crate::fields::checksum;
 use crate::packet::LONGEST;
@@ -17,8 +17,8 @@ pub struct Reply<'a> {
     pub data: &'a [u8],
 }
 
-/// Writes a reply at the start of the buffer, its data given in two parts, with a checksum over the
-/// rest if the packet's bit 5 is set. Gives the reply's length.
+/// Writes a reply at the start of the buffer (rule 3.1), its data given in two parts, with a checksum
+/// over the rest if bit 5 of the packet is set. Gives the reply's length.
 pub fn write(buffer: &mut [u8], status: u8, data: [&[u8]; 2], with_checksum: bool) -> usize {
     let (head, rest) = buffer.split_at_mut(HEAD);
     let [first, second] = data;
@@ -34,7 +34,7 @@ pub fn write(buffer: &mut [u8], status: u8, data: [&[u8]; 2], with_checksum: boo
     end + usize::from(with_checksum)
 }
 
-/// Reply reading: refusals 2, 3, 4, 5 and 10, in this order.
+/// Reply reading (rule 3.5): refusals 2, 3, 4, 5 and 10, in this order.
 pub fn read(bytes: &[u8], checksum_expected: bool) -> Result<Reply<'_>, Refusal> {
     if bytes.len() < HEAD + usize::from(checksum_expected) {
         return Err(Refusal::TooShort);

@@ -1,4 +1,4 @@
-//! Sessions by hand: document 01's bench packets and what it calls easy to get wrong.
+//! Sessions by hand: the bench packets of rule 8.1, and what is easy to get wrong.
 
 /// Packets taken one after the other from reset.
 pub struct Script {
@@ -9,7 +9,7 @@ pub struct Script {
 /// A packet in hex, its status, and the reply in hex, "" for none.
 pub type Step = (&'static str, u8, &'static str);
 
-/// Bytes from hex, as document 01 writes them.
+/// Bytes from hex, with blanks between them.
 pub fn hex(text: &str) -> Vec<u8> {
     text.split_whitespace().map(|byte| u8::from_str_radix(byte, 16).expect("two hex digits")).collect()
 }
@@ -66,7 +66,7 @@ pub const SCRIPTS: &[Script] = &[
             ("40 11", 6, "06 00 00"),
             ("64 11 01 77", 5, "05 00 00 05"),
             ("04 7F", 7, ""),
-            // Bit 6 of a read has no further effect.
+            // Rule 3.2: to a read bit 6 adds nothing.
             ("C4 11", 0, "00 01 00 00"),
             ("84 11", 0, "00 01 00 00"),
             ("A4 11 B5", 0, "00 01 00 00 01"),

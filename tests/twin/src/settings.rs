@@ -6,7 +6,7 @@ use crate::fields::{within, Fields, OutOfRange, Word};
 pub const COLUMNS: usize = 62;
 /// Rows of a full warp map.
 pub const ROWS: usize = 32;
-/// Points of a warp map ("1,984 decides").
+/// Points of a warp map (rule 1.3).
 pub const POINTS: usize = COLUMNS * ROWS;
 /// Points of a full smooth table.
 pub const SMOOTH_POINTS: usize = 25;
@@ -14,7 +14,7 @@ pub const SMOOTH_POINTS: usize = 25;
 pub const GAINS: usize = 2016;
 /// Pins of 60h and 61h.
 pub const PINS: usize = 88;
-/// The ports that 65h takes (house: 11, 12 and 14 are refusal 10).
+/// The ports that 65h takes (rule 5.1); any other is refusal 10.
 pub const PWM_PORTS: [u8; 12] = [0, 1, 2, 3, 4, 5, 6, 7, 8, 9, 10, 13];
 /// Ports of 6Dh.
 pub const UARTS: usize = 3;
@@ -26,14 +26,14 @@ pub type Point = [u8; 4];
 /// The two lists of 35h as they lie there: 62 entries for the columns, then 32 for the rows.
 pub type Lists = [Word; COLUMNS + ROWS];
 
-/// Each of the two lists strictly rising (house).
+/// Rule 5.5: both lists rise strictly.
 pub fn rising(lists: &Lists) -> Result<&Lists, OutOfRange> {
     let rises = |list: &[Word]| list.is_sorted_by(|a, b| u16::from_le_bytes(*a) < u16::from_le_bytes(*b));
     let (columns, rows) = lists.split_at(COLUMNS);
     (rises(columns) && rises(rows)).then_some(lists).ok_or(OutOfRange)
 }
 
-/// 1Ah: colour 0, 2-8.
+/// 1Ah: curtain colour 0, 2-8.
 pub fn curtain_colour(colour: u8) -> Result<u8, OutOfRange> {
     if colour == 0 {
         Ok(0)
@@ -42,7 +42,7 @@ pub fn curtain_colour(colour: u8) -> Result<u8, OutOfRange> {
     }
 }
 
-/// A pin as 60h sets it: direction, level, drain. 61h shares the level.
+/// A pin as 60h sets it: direction, level, drain. 61h shares the level (rule 5.3).
 #[derive(Clone, Copy, Debug, Default, PartialEq, Eq)]
 pub struct Pin {
     pub direction: bool,
@@ -86,7 +86,7 @@ impl Pwm {
 }
 
 impl Default for Pwm {
-    /// "Reset: ... PWM frequency 20."
+    /// After reset the frequency is 20 (rule 5.10).
     fn default() -> Self {
         Pwm { frequency: 20, duty: 0, on: false }
     }
@@ -144,9 +144,9 @@ impl Uart {
 /// What a 35h write carries.
 #[derive(Clone, Copy, Debug, PartialEq, Eq)]
 pub enum ControlPoints<'a> {
-    /// Mode 0: columns 2-62 and rows 2-32 (house widths and lower ends).
+    /// Mode 0: 2-62 columns, 2-32 rows.
     Even { columns: u16, rows: u16 },
-    /// Mode 1: the two lists; the shape is 62 × 32.
+    /// Mode 1: the two lists, for 62 × 32 points.
     Listed(&'a Lists),
 }
 
@@ -198,7 +198,7 @@ impl Shape {
 }
 
 impl Default for Shape {
-    /// "Reset: ... shape 62 × 32 in mode 0 (staged and live), lists 0, 1, 2 and so on."
+    /// After reset 62 × 32 in mode 0, and lists that count from 0 (rule 5.10).
     fn default() -> Self {
         let number = |i| if i < COLUMNS { i } else { i - COLUMNS } as u16;
         Shape {
@@ -230,7 +230,7 @@ impl SmoothTable {
 }
 
 impl Default for SmoothTable {
-    /// "Reset: ... smooth shape 3 × 3."
+    /// After reset 3 × 3 (rule 5.10).
     fn default() -> Self {
         SmoothTable { columns: 3, rows: 3, points: [[0; 4]; SMOOTH_POINTS] }
     }
@@ -250,7 +250,7 @@ pub struct Settings {
     pub enable: bool,
     pub live: Shape,
     pub smooth: SmoothTable,
-    /// 0: merge mode isn't carried.
+    /// 0: merge mode is not carried (rule 5.1, 39h).
     pub update_mode: u8,
     pub pins: [Pin; PINS],
     pub pwms: [Pwm; PWM_PORTS.len()],
@@ -259,7 +259,7 @@ pub struct Settings {
 }
 
 impl Default for Settings {
-    /// "Reset: zeros everywhere, but ...": the exceptions are the fields' own defaults.
+    /// After reset (rule 5.10) all is 0, but for the fields that have defaults of their own.
     fn default() -> Self {
         Settings {
             display: 0,

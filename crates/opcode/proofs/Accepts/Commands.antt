@@ -1,5 +1,5 @@
--- The list of commands walked: what holds of each command's opcode holds of every opcode carried, and what holds of each command and of
--- "any other opcode" holds of every opcode's command.
+-- The list of commands walked: what holds of each command's opcode holds of every opcode carried, and what holds of each command
+-- and of `none` holds of every opcode's command.
 use Prim.Native.Nat.{ℕ, _<_}
 use mathlib.Core.Path.{_≡_, refl, sym, subst}
 use mathlib.Core.Bool.{false, true≢false}

@@ -16,7 +16,7 @@ use borrow.Author.Needs.{needs}
 use Rattle.settings.proofs.picture_in_range.Statement.{statement}
 use Rattle.settings.proofs.picture_in_range.Tie as tie
 
--- "colour 0, 2-8"
+-- Rule 5.1, 1Ah: curtain colour 0, 2-8.
 gap : (v : ℕ) → (leb 1 v && ltb v 2) ≡ eqb v 1
 gap zero = refl
 gap (suc zero) = refl
