@@ -13,9 +13,10 @@ use lib.Seq.{drop-at}
 use lib.Dec.{eqb}
 use Rattle.wire.specs.First.{first}
 use Rattle.wire.specs.Buffers.{over}
-use Rattle.opcode.specs.Options.{isRead}
+use Rattle.opcode.specs.Options.{hasSum, isRead}
 use Rattle.opcode.specs.Judgement.{judgement}
 use Rattle.wire.proofs.Tests.{told, Silent, Numbered, silent-first, first-silent}
+use Rattle.reply.specs.Reply.{replyBytes}
 use Rattle.packet.specs.Frame.{headerOf, opcodeOf, dataOf}
 use Rattle.packet.specs.Reading.{refusals, reading}
 use Rattle.packet.proofs.Frames.{reading-number}
@@ -24,8 +25,9 @@ use Rattle.settings.specs.Ranges.{settingsRight}
 use Rattle.settings.proofs.Allowed.{settings-exactly, reset-allowed}
 use Rattle.controller.specs.State.{State, lengthsRight, stopped, ResetOut, reset}
 use Rattle.controller.specs.Commands.{runsPast}
-use Rattle.controller.specs.Step.{reads, readAndPlaced, decision, stepRefusals, numberOf, replyTo, Out, out, step}
+use Rattle.controller.specs.Step.{reads, readAndPlaced, decision, stepRefusals, numberOf, emptyReply, replyTo, Out, out, step}
 use Rattle.controller.specs.Demands.{StateLent, LentRight, Demand1, Demand2, Placed, Accepted, Resets}
+use Rattle.controller.proofs.Effects.{leaves, returns, some-left, some-returned, written-data, read-data}
 use Rattle.controller.proofs.Bounds.{placed-number}
 use Rattle.controller.proofs.Steps.{decision-number, step-stopped, step-refused, step-read, step-written}
 
@@ -219,6 +221,26 @@ demand2 p bytes s reply =
       reads = λ a r.
           let d = decided p s reply (accepted-exactly p bytes s reply .1 a) in
           step-read p s reply (d .0) (d .1) (eq-eqb (isRead (headerOf p)) 1 r);
+      leaves = λ a w.
+          let d = decided p s reply (accepted-exactly p bytes s reply .1 a) in
+          let some = some-left s (written-data (a .taken .allowed) (omega arith)) in
+          record {
+            after = some .after;
+            by = some .by;
+            answer =
+                step-written p s reply (d .0) (d .1) (ne-eqb (isRead (headerOf p)) 1 (omega arith))
+                ∙ ap (λ (t : State). out 0 (length (emptyReply 0 p)) t (over (emptyReply 0 p) reply)) (leaves (some .by));
+          };
+      returns = λ a r.
+          let d = decided p s reply (accepted-exactly p bytes s reply .1 a) in
+          let some = some-returned s (a .lent .settings) (read-data (a .taken .allowed) (omega arith)) in
+          record {
+            back = some .back;
+            by = some .by;
+            answer =
+                step-read p s reply (d .0) (d .1) (eq-eqb (isRead (headerOf p)) 1 r)
+                ∙ ap (λ (back : List ℕ). out 0 (length (replyBytes (eqb (hasSum (headerOf p)) 1) 0 back)) s (over (replyBytes (eqb (hasSum (headerOf p)) 1) 0 back) reply)) (returns (some .by));
+          };
     }
 
 -- ---- Reset.

@@ -15,4 +15,5 @@ pub mod Live
 pub mod InRange
 pub mod Applied
 pub mod Same
+pub mod Effects
 pub mod Handled

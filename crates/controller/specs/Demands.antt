@@ -22,6 +22,7 @@ use Rattle.reply.specs.Reading.{replyReading}
 use Rattle.settings.specs.Allowed.{SettingsAllowed}
 use Rattle.controller.specs.State.{State, state, ResetOut, resetOut, reset}
 use Rattle.controller.specs.Commands.{written, dataBack}
+use Rattle.controller.specs.Effects.{Leaves, Returns}
 use Rattle.controller.specs.Step.{stepRefusals, emptyReply, replyData, Out, out, step}
 
 -- ---- What is lent.
@@ -83,6 +84,18 @@ pub record Accepted (p : List ℕ) (s : State) (reply : List ℕ) : Type 0 where
   pub taken : Taken p
   pub placed : Placed p (s .block)
 
+-- Command by command, with every place as a number: an accepted write leaves one of these states, and an accepted read returns one of these data.
+pub record Left (p : List ℕ) (s : State) (reply : List ℕ) (o : Out) : Type 0 where
+  pub after : State
+  pub by : Leaves s (opcodeOf p) (dataOf p) after
+  pub answer : o ≡ out 0 (length (emptyReply 0 p)) after (over (emptyReply 0 p) reply)
+
+pub record Returned (p : List ℕ) (s : State) (reply : List ℕ) (o : Out) : Type 0 where
+  pub back : List ℕ
+  pub by : Returns s (opcodeOf p) (dataOf p) back
+  pub answer : o
+      ≡ out 0 (length (replyBytes (eqb (hasSum (headerOf p)) 1) 0 back)) s (over (replyBytes (eqb (hasSum (headerOf p)) 1) 0 back) reply)
+
 -- Accepted exactly then; a write leaves the command's state, a read the state as it was and the command's data in the reply (3.3).
 pub record Demand2 (p : List ℕ) (s : State) (reply : List ℕ) (o : Out) : Type 0 where
   pub exactly : (o .status ≡ 0) ↔ Accepted p s reply
@@ -92,6 +105,8 @@ pub record Demand2 (p : List ℕ) (s : State) (reply : List ℕ) (o : Out) : Typ
       → o
       ≡ out 0 (length (replyBytes (eqb (hasSum (headerOf p)) 1) 0 (dataBack (opcodeOf p) (dataOf p) s))) s
       (over (replyBytes (eqb (hasSum (headerOf p)) 1) 0 (dataBack (opcodeOf p) (dataOf p) s)) reply)
+  pub leaves : Accepted p s reply → isRead (headerOf p) ≡ 0 → Left p s reply o
+  pub returns : Accepted p s reply → isRead (headerOf p) ≡ 1 → Returned p s reply o
 
 -- ---- The reply.
 

@@ -2,6 +2,7 @@
 pub mod State
 pub mod Commands
 pub mod Step
+pub mod Effects
 pub mod Demands
 pub mod Calls
 pub mod Internal
