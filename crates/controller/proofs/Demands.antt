@@ -23,6 +23,7 @@ use Rattle.packet.proofs.Frames.{reading-number}
 use Rattle.packet.proofs.Exactly.{exactly}
 use Rattle.settings.specs.Ranges.{settingsRight}
 use Rattle.settings.proofs.Allowed.{settings-exactly, reset-allowed}
+use Rattle.settings.proofs.AfterReset.{reset-bytes, reset-points, reset-gains}
 use Rattle.controller.specs.State.{State, lengthsRight, stopped, ResetOut, reset}
 use Rattle.controller.specs.Commands.{runsPast}
 use Rattle.controller.specs.Step.{reads, readAndPlaced, decision, stepRefusals, numberOf, emptyReply, replyTo, Out, out, step}
@@ -257,6 +258,9 @@ resets s {o} same = go (lengthsRight s) refl
           exactly = (λ z. state-lent s .0 e, λ l. refl);
           wrong-length = λ wrong. absurd (wrong (state-lent s .0 e));
           in-range = λ z. reset-allowed;
+          block-after = λ z. reset-bytes;
+          maps-after = λ z k. (reset-points k, reset-points k);
+          gains-after = λ z. reset-gains;
         })
     go false e =
         let none : StateLent s → ⊥ = λ l. true≢false (sym (state-lent s .1 l) ∙ e) in
@@ -266,4 +270,7 @@ resets s {o} same = go (lengthsRight s) refl
           exactly = (λ z. absurd (omega arith), λ l. absurd (none l));
           wrong-length = λ wrong. refl;
           in-range = λ z. absurd (omega arith);
+          block-after = λ z. absurd (omega arith);
+          maps-after = λ z. absurd (omega arith);
+          gains-after = λ z. absurd (omega arith);
         })

@@ -1,7 +1,7 @@
 -- What is demanded of one packet on a state, of whatever an entry answers and leaves (`Out`): that a refusal changes nothing, that a packet is
 -- accepted exactly when the rules allow it and does then what they say, and what follows for replies, ranges, the live side and bytes without a
 -- meaning. What is right is said here apart from the tests that decide it. `Handled` stands in the contracts of the entries.
-use Prim.Native.Nat.{ℕ, _+_, _-_, _*_, _/_, _≤_}
+use Prim.Native.Nat.{ℕ, _+_, _-_, _*_, _/_, _≤_, _<_}
 use mathlib.Core.Path.{_≡_}
 use mathlib.Core.Logic.{_↔_, _⊎_}
 use mathlib.Core.Bool.{true}
@@ -20,6 +20,7 @@ use Rattle.packet.specs.Sound.{Taken}
 use Rattle.reply.specs.Reply.{replyBytes}
 use Rattle.reply.specs.Reading.{replyReading}
 use Rattle.settings.specs.Allowed.{SettingsAllowed}
+use Rattle.settings.specs.AfterReset.{byteAfterReset}
 use Rattle.controller.specs.State.{State, state, ResetOut, resetOut, reset}
 use Rattle.controller.specs.Commands.{written, dataBack}
 use Rattle.controller.specs.Effects.{Leaves, Returns}
@@ -182,3 +183,6 @@ pub record Resets (s : State) (o : ResetOut) : Type 0 where
   pub exactly : (o .status ≡ 0) ↔ StateLent s
   pub wrong-length : (StateLent s → ⊥) → o ≡ resetOut 1 s
   pub in-range : o .status ≡ 0 → SettingsAllowed (o .state .block)
+  pub block-after : o .status ≡ 0 → (k : ℕ) → k < 1024 → getD (o .state .block) k 0 ≡ byteAfterReset k
+  pub maps-after : o .status ≡ 0 → (k : ℕ) → (getD (o .state .staged) k 0 ≡ 0) × (getD (o .state .live) k 0 ≡ 0)
+  pub gains-after : o .status ≡ 0 → (k : ℕ) → k < 6048 → getD (o .state .gains) k 0 ≡ 4096

@@ -3,8 +3,9 @@
 use Prim.Native.Nat.{ℕ, suc, _*_, _≤_, _<_}
 use mathlib.Core.Path.{_≡_}
 use mathlib.Core.Bool.{Bool}
-use mathlib.Core.List.{List}
+use mathlib.Core.List.{List, [], _∷_}
 use lib.ListN.{take, getD}
+use Rattle.wire.specs.Checksum.{checksum}
 use Rattle.controller.specs.State.{State}
 use Rattle.controller.specs.Demands.{LentRight, stagedPoints, LiveKept}
 use Rattle.controller.specs.Calls.{Call, stateAfterAll, NoneApplies}
@@ -26,3 +27,5 @@ pub record Theorems : Type 0 where
   -- Every number of a batch is a byte.
   pub batch-bytes : (n : ℕ) (held wanted : List ℕ) → n ≤ 65536 → MapOf n held → MapOf n wanted → (k : ℕ) → getD (batchOf held wanted) k 0 < 256
   pub examples : Examples
+  -- Rule 2.5, at work: a sum over 256.
+  pub sum-wraps : checksum (0xF0 ∷ 0x20 ∷ 0x03 ∷ []) ≡ 0x13

@@ -15,7 +15,7 @@ use Rattle.opcode.proofs.Rows.{beyond}
 use Rattle.packet.specs.Reading.{Answer, reading}
 use Rattle.packet.specs.Making.{packetOf, Made, makeRefusals, madeBy, made}
 use Rattle.packet.specs.Promises.{PacketRead, PacketMade}
-use Rattle.packet.proofs.Exactly.{exactly}
+use Rattle.packet.proofs.Exactly.{exactly, frame-number}
 use Rattle.packet.proofs.Makes.{made-by, made-small, made-judged}
 use Rattle.packet.proofs.MadeReads.{reads-as-made, refuses-as-read}
 use Rattle.packet.proofs.MadeAgain.{made-again}
@@ -26,6 +26,7 @@ read-promised p bytes e =
     (record {
       outcome = refl;
       exactly = exactly p bytes;
+      frame-number = frame-number p;
       again = λ n buffer room. made-again p buffer bytes n room;
     })
 

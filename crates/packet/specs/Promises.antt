@@ -9,7 +9,7 @@ use Rattle.wire.specs.Buffers.{over}
 use Rattle.opcode.specs.Options.{optionsIn}
 use Rattle.packet.specs.Frame.{place, fields, dataOf}
 use Rattle.packet.specs.Reading.{Answer, reading}
-use Rattle.packet.specs.Sound.{Taken}
+use Rattle.packet.specs.Sound.{Taken, FrameNumber}
 use Rattle.packet.specs.Making.{packetOf, Made, made}
 
 -- The data that an answer points at.
@@ -26,6 +26,7 @@ pub record PacketRead (p : List ℕ) (a : Answer) : Type 0 where
   pub outcome : a ≡ reading p
   -- Taken exactly if the frame is sound and meant for us, and the data is allowed.
   pub exactly : (a .number ≡ 0) ↔ Taken p
+  pub frame-number : FrameNumber p (a .number)
   pub again : a .number ≡ 0 → (buffer : List ℕ) → 512 ≤ length buffer → MadeAgain p a buffer
 
 -- Rule 4.5: what was made reads back as the command and the options that it was made from, and its data byte for byte.

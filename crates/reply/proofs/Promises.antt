@@ -5,13 +5,14 @@ use mathlib.Core.Logic.{_↔_}
 use mathlib.Core.Bool.{Bool, true, false, not, _&&_}
 use mathlib.Core.List.{List}
 use native.Mathlib.Omega.{arith}
-use borrow.Author.Tests.{ltb-false, eqb-true, not-false, le-ltb, eq-eqb}
-use lib.ListN.{length}
+use borrow.Author.Tests.{ltb-false, eqb-true, not-false, le-ltb, lt-ltb, eq-eqb, ne-eqb}
+use lib.ListN.{length, take}
 use lib.Dec.{eqb}
 use Rattle.wire.specs.First.{first}
+use Rattle.wire.specs.Checksum.{checksum}
 use Rattle.wire.specs.Numbers.{byteAt, wordAt}
 use Rattle.wire.proofs.Tests.{Silent, silent-first, first-silent, option-true, option-false}
-use Rattle.reply.specs.Reading.{ReplyAnswer, sumSize, replyRefusals, replyAnswered, replyReading, ReplyTaken, ReplyRead}
+use Rattle.reply.specs.Reading.{ReplyAnswer, sumSize, sumWrong, ReplyNumber, replyRefusals, replyAnswered, replyReading, ReplyTaken, ReplyRead}
 
 module _ (r : List ℕ) (sum : Bool) where
   reply-taken : Silent (replyRefusals r sum) → ReplyTaken r sum
@@ -53,6 +54,26 @@ module _ (r : List ℕ) (sum : Bool) where
     λ t. number-first ∙ silent-first (replyRefusals r sum) (taken-silent t),
   )
 
+  -- The number of bytes that are no reply: the tests before its own are false.
+  numbered : ReplyNumber r sum (replyReading r sum .number)
+  numbered =
+      record {
+        two = λ h. number-first ∙ rw (lt-ltb _ _ h);
+        three = λ w h. number-first ∙ rw (le-ltb _ _ w, lt-ltb _ _ h);
+        four = λ w s h. number-first ∙ rw (le-ltb _ _ w, le-ltb _ _ s, ne-eqb (wordAt r 1) (length r - 3 - sumSize sum) (λ e. h (omega arith)));
+        five = λ l s o h.
+            number-first ∙ rw (le-ltb (length r) (3 + sumSize sum) (omega arith), le-ltb _ _ s, counts l, wrong o h);
+        ten = λ l s c h.
+            number-first
+            ∙ rw (le-ltb (length r) (3 + sumSize sum) (omega arith), le-ltb _ _ s, counts l, option-false _ _ (λ e. eq-eqb _ _ (c e)), lt-ltb _ _ h);
+      }
+    where
+      counts : 3 + wordAt r 1 + sumSize sum ≡ length r → eqb (wordAt r 1) (length r - 3 - sumSize sum) ≡ true
+      counts l = eq-eqb (wordAt r 1) (length r - 3 - sumSize sum) (omega arith)
+
+      wrong : sum ≡ true → (byteAt r (length r - 1) ≡ checksum (take (length r - 1) r) → ⊥) → sumWrong r sum ≡ true
+      wrong o h = rw (o, ne-eqb _ _ h)
+
   found : replyReading r sum .number ≡ 0
       → (replyReading r sum .status ≡ byteAt r 0) × (replyReading r sum .place ≡ 3) × (replyReading r sum .size ≡ wordAt r 1)
   unfolding replyReading
@@ -61,4 +82,4 @@ module _ (r : List ℕ) (sum : Bool) where
       rw (sym number-first ∙ e) (refl, refl, omega (arith, t .counted))
 
 pub reply-promised : (r : List ℕ) (sum : Bool) {a : ReplyAnswer} → a ≡ replyReading r sum → ReplyRead r sum a
-reply-promised r sum e = rw e (record { outcome = refl; exactly = taken-exactly r sum; content = found r sum })
+reply-promised r sum e = rw e (record { outcome = refl; exactly = taken-exactly r sum; numbered = numbered r sum; content = found r sum })

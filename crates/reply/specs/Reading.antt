@@ -1,5 +1,5 @@
 -- Rule 3.5: reading a reply, told whether a checksum is expected. Data is at 3, behind status and length (rule 3.3).
-use Prim.Native.Nat.{ℕ, _+_, _-_, _≤_}
+use Prim.Native.Nat.{ℕ, _+_, _-_, _≤_, _<_}
 use mathlib.Core.Path.{_≡_}
 use mathlib.Core.Logic.{_↔_}
 use mathlib.Core.Bool.{Bool, true, cond, not, _&&_}
@@ -66,9 +66,20 @@ pub record ReplyTaken (r : List ℕ) (sum : Bool) : Type 0 where
   -- 0, or the number of a refusal.
   pub status : byteAt r 0 ≤ 12
 
+-- Rule 3.5: which number bytes get that are no reply, each with what stands before it in the order.
+pub record ReplyNumber (r : List ℕ) (sum : Bool) (number : ℕ) : Type 0 where
+  pub two : length r < 3 + sumSize sum → number ≡ 2
+  pub three : 3 + sumSize sum ≤ length r → 512 < length r → number ≡ 3
+  pub four : 3 + sumSize sum ≤ length r → length r ≤ 512 → (3 + wordAt r 1 + sumSize sum ≡ length r → ⊥) → number ≡ 4
+  pub five : 3 + wordAt r 1 + sumSize sum ≡ length r → length r ≤ 512 → sum ≡ true
+      → (byteAt r (length r - 1) ≡ checksum (take (length r - 1) r) → ⊥) → number ≡ 5
+  pub ten : 3 + wordAt r 1 + sumSize sum ≡ length r → length r ≤ 512
+      → (sum ≡ true → byteAt r (length r - 1) ≡ checksum (take (length r - 1) r)) → 12 < byteAt r 0 → number ≡ 10
+
 -- Rule 3.5: what reply reading promises of its answer.
 pub record ReplyRead (r : List ℕ) (sum : Bool) (a : ReplyAnswer) : Type 0 where
   pub outcome : a ≡ replyReading r sum
   pub exactly : (a .number ≡ 0) ↔ ReplyTaken r sum
+  pub numbered : ReplyNumber r sum (a .number)
   -- The status and the data, behind the three-byte head.
   pub content : a .number ≡ 0 → (a .status ≡ byteAt r 0) × (a .place ≡ 3) × (a .size ≡ wordAt r 1)

@@ -5,3 +5,4 @@ pub mod Fits
 pub mod Same
 pub mod Stays
 pub mod Allowed
+pub mod AfterReset

@@ -4,3 +4,4 @@ pub mod Allowed
 pub mod Ranges
 pub mod Reset
 pub mod Internal
+pub mod AfterReset

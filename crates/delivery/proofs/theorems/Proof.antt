@@ -1,4 +1,6 @@
 -- Each theorem of the list, where it is proved.
+use mathlib.Core.Path.{refl}
+use Rattle.wire.specs.Checksum.{total, checksum}
 use Rattle.controller.proofs.Demands.{runs, right-running}
 use Rattle.controller.proofs.Live.{live-kept}
 use Rattle.upload.proofs.Least.{room-packet}
@@ -9,6 +11,7 @@ use Rattle.delivery.proofs.theorems.Statement.{statement}
 use Rattle.delivery.proofs.theorems.Tie as tie
 
 returns : tie.Need-returns
+unfolding total checksum
 returns c =
     record {
       live-kept = live-kept;
@@ -16,6 +19,7 @@ returns c =
       smallest-count = room-packet;
       batch-bytes = λ n held wanted small h w. batch-bytes n small wanted w held h;
       examples = examples;
+      sum-wraps = refl;
     }
 
 pub theorems-spec : {M : Type 1} → statement M
