@@ -16,6 +16,7 @@ use Rattle.controller.proofs.Demands.{lent, decided}
 use Rattle.controller.proofs.Steps.{step-written}
 use Rattle.controller.proofs.Blocks.{before-paste, sets-paste}
 use Rattle.settings.proofs.Same.{paste-there}
+use Rattle.settings.specs.Layout.{blockSize, enable, liveShape, shapeSize, stagedShape}
 
 -- What was pasted at a place stands there.
 there : (b t : List ℕ) (place n : ℕ) → place ≤ length b → n ≤ length t → take n (drop place (paste b place t n)) ≡ take n t
@@ -28,16 +29,16 @@ applied p s reply a =
     let d = decided p s reply (a .0) in
     let l = lent s reply (d .0) in
     let after = ap (λ o. o .state) (step-written p s reply (d .0) (d .1) (ne-eqb (isRead (headerOf p)) 1 (omega (arith, a .2)))) in
-    let marked : length (paste (s .block) 201 (1 ∷ []) 1) ≡ 1024 =
-    length-paste (s .block) 201 (1 ∷ []) 1 (omega (arith, l .tables .block)) (omega arith) ∙ l .tables .block in
+    let marked : length (paste (s .block) enable (1 ∷ []) 1) ≡ blockSize =
+    length-paste (s .block) enable (1 ∷ []) 1 (omega (arith, l .tables .block)) (omega arith) ∙ l .tables .block in
     rw (after, a .1, a .3)
     (record {
       points-live = refl;
       enabled =
-          before-paste (paste (s .block) 201 (1 ∷ []) 1) 202 (drop 8 (s .block)) 193 201 (omega (arith, marked))
+          before-paste (paste (s .block) enable (1 ∷ []) 1) liveShape (drop stagedShape (s .block)) shapeSize enable (omega (arith, marked))
           (rw length-drop (omega (arith, l .tables .block))) (omega arith)
-          ∙ paste-there (s .block) (1 ∷ []) 201 1 (omega (arith, l .tables .block)) (omega arith) .each 0 (omega arith);
-      settings-live = there (paste (s .block) 201 (1 ∷ []) 1) (drop 8 (s .block)) 202 193 (omega (arith, marked)) (rw length-drop (omega (arith, l .tables .block)));
+          ∙ paste-there (s .block) (1 ∷ []) enable 1 (omega (arith, l .tables .block)) (omega arith) .each 0 (omega arith);
+      settings-live = there (paste (s .block) enable (1 ∷ []) 1) (drop stagedShape (s .block)) liveShape shapeSize (omega (arith, marked)) (rw length-drop (omega (arith, l .tables .block)));
     })
 
 -- One of 0 clears enable alone.
@@ -47,5 +48,5 @@ cleared-by p s reply a =
     let d = decided p s reply (a .0) in
     let l = lent s reply (d .0) in
     let after = ap (λ o. o .state) (step-written p s reply (d .0) (d .1) (ne-eqb (isRead (headerOf p)) 1 (omega (arith, a .2)))) in
-    let one : set (s .block) 201 0 ≡ paste (s .block) 201 (0 ∷ []) 1 = sets-paste (s .block) 201 (0 ∷ []) (omega (arith, l .tables .block)) in
+    let one : set (s .block) enable 0 ≡ paste (s .block) enable (0 ∷ []) 1 = sets-paste (s .block) enable (0 ∷ []) (omega (arith, l .tables .block)) in
     rw (after, a .1, a .3, one)

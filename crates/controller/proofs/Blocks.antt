@@ -12,6 +12,7 @@ use Rattle.wire.specs.Buffers.{over}
 use Rattle.wire.specs.Numbers.{byteAt, wordBytes}
 use Rattle.wire.proofs.Laws.{sets-append}
 use Rattle.controller.specs.Commands.{writeShape, shapeBytes}
+use Rattle.settings.specs.Layout.{blockSize, enable, liveShape, shapeSize, stagedShape, columnList, columnEntries, rowEntries, listsSize}
 
 -- A copy leaves what lies before it.
 pub before-paste : (d : List ℕ) (at : ℕ) (s : List ℕ) (n i : ℕ) → at ≤ length d → n ≤ length s → i < at → getD (paste d at s n) i 0 ≡ getD d i 0
@@ -36,22 +37,22 @@ byte-over [] s v n room h = absurd (omega arith)
 byte-over (x ∷ out) s v n room h = let long = length-take-le n s h in (omega arith, rw (long, one-add n))
 
 -- 35h in mode 1: mode, columns, rows and the lists, stored one behind the other, are one copy.
-pub lists-stored : (block d : List ℕ) → length block ≡ 1024 → length d ≡ 189 → byteAt d 0 ≡ 1
-    → paste (sets (sets (sets block 8 (1 ∷ [])) 9 (wordBytes 62)) 11 (wordBytes 32)) 13 (drop 1 d) 188 ≡ writeShape d block
+pub lists-stored : (block d : List ℕ) → length block ≡ blockSize → length d ≡ 1 + listsSize → byteAt d 0 ≡ 1
+    → paste (sets (sets (sets block stagedShape (1 ∷ [])) (stagedShape + 1) (wordBytes columnEntries)) (stagedShape + 3) (wordBytes rowEntries)) (columnList stagedShape) (drop 1 d) listsSize ≡ writeShape d block
 unfolding writeShape shapeBytes
 lists-stored block d whole long mode =
     let head : List ℕ = 1 ∷ 62 ∷ 0 ∷ 32 ∷ 0 ∷ [] in
-    let rest : length (drop 1 d) ≡ 188 = rw length-drop (omega arith) in
-    let behind : sets (sets block 8 head) 13 (drop 1 d) ≡ paste (sets block 8 head) 13 (drop 1 d) 188 =
-    rw rest at (sets-paste (sets block 8 head) 13 (drop 1 d) (rw length-sets (omega arith))) in
-    sym behind ∙ sets-append block 8 head (drop 1 d) ∙ sets-paste block 8 (head ++ drop 1 d) (omega arith)
+    let rest : length (drop 1 d) ≡ listsSize = rw length-drop (omega arith) in
+    let behind : sets (sets block stagedShape head) (columnList stagedShape) (drop 1 d) ≡ paste (sets block stagedShape head) (columnList stagedShape) (drop 1 d) listsSize =
+    rw rest at (sets-paste (sets block stagedShape head) (columnList stagedShape) (drop 1 d) (rw length-sets (omega arith))) in
+    sym behind ∙ sets-append block stagedShape head (drop 1 d) ∙ sets-paste block stagedShape (head ++ drop 1 d) (omega arith)
     ∙ rw mode
 
 -- 36h: the staged shape lies before enable, so it is copied as it was.
-pub shape-applied : (block : List ℕ) → length block ≡ 1024
-    → paste (sets block 201 (1 ∷ [])) 202 (drop 8 (sets block 201 (1 ∷ []))) 193
-    ≡ paste (paste block 201 (1 ∷ []) 1) 202 (drop 8 block) 193
+pub shape-applied : (block : List ℕ) → length block ≡ blockSize
+    → paste (sets block enable (1 ∷ [])) liveShape (drop stagedShape (sets block enable (1 ∷ []))) shapeSize
+    ≡ paste (paste block enable (1 ∷ []) 1) liveShape (drop stagedShape block) shapeSize
 shape-applied block whole =
-    let same : take 193 (drop 8 (set block 201 1)) ≡ take 193 (drop 8 block) =
-    rw (drop-set-add 8 block 193 1) (take-set-le 193 (drop 8 block) 193 1 (omega arith)) in
-    rw (same, sets-paste block 201 (1 ∷ []) (omega arith))
+    let same : take shapeSize (drop stagedShape (set block enable 1)) ≡ take shapeSize (drop stagedShape block) =
+    rw (drop-set-add stagedShape block shapeSize 1) (take-set-le shapeSize (drop stagedShape block) shapeSize 1 (omega arith)) in
+    rw (same, sets-paste block enable (1 ∷ []) (omega arith))

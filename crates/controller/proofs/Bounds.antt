@@ -24,13 +24,15 @@ use Rattle.opcode.proofs.Accepts.Reads.{silent-read}
 use Rattle.opcode.proofs.Accepts.Writes.{silent-write}
 use Rattle.packet.specs.Frame.{headerOf, opcodeOf, place, fields, dataSize, dataOf}
 use Rattle.packet.specs.Points.{startOf, countOf}
-use Rattle.packet.specs.Reading.{Answer, refusals, refusedBy, answered, reading}
+use Rattle.packet.specs.Reading.{Answer, refusals, commandAt, refusedBy, answered, reading}
 use Rattle.packet.proofs.Frames.{standing}
+use Rattle.settings.specs.Layout.{updatePlace}
 use Rattle.settings.specs.Layout.{columnsAt, rowsAt, stagedShape, enable, liveShape, smoothTable}
 use Rattle.settings.specs.Ranges.{right, fieldsOf, pictureFields, deviceFields, shapeRight, settingsRight}
-use Rattle.controller.specs.Commands.{runsPast}
+use Rattle.controller.specs.Commands.{runsPast, third}
 use Rattle.controller.specs.Step.{reads, readAndPlaced, decision}
-use Rattle.controller.specs.Internal.{PointsWrite, GainsWrite}
+use Rattle.controller.specs.Internal.{PointsWrite, PointsRead, GainsWrite, GainsRead}
+use Rattle.settings.specs.Reset.{mapSize}
 
 -- ---- The number of a packet: the first of reading's refusals, and then 12.
 
@@ -65,14 +67,11 @@ placed-number p block = first-number (readAndPlaced p block) (omega arith)
 
 -- ---- An answer is a command exactly if its number is 0: a refusal has no place, and data is never at place 0.
 
-abbrev pub command : ℕ → ℕ → ℕ → ℕ → Answer
-command op o at size = record { number = 0; opcode = op; options = o; place = at; size = size }
-
-command-zero : (n : ℕ) (p : List ℕ) (op o at size : ℕ) → command op o at size ≡ answered n p → (n ≡ 0) × (command op o at size ≡ standing p)
+command-zero : (n : ℕ) (p : List ℕ) (op o at size : ℕ) → commandAt op o at size ≡ answered n p → (n ≡ 0) × (commandAt op o at size ≡ standing p)
 command-zero n p op o at size h = go (eqb n 0) refl h
   where
-    go : (b : Bool) → eqb n 0 ≡ b → command op o at size ≡ cond b (standing p) (refusedBy n)
-        → (n ≡ 0) × (command op o at size ≡ standing p)
+    go : (b : Bool) → eqb n 0 ≡ b → commandAt op o at size ≡ cond b (standing p) (refusedBy n)
+        → (n ≡ 0) × (commandAt op o at size ≡ standing p)
     go true e s = (eqb-true n 0 e, s)
     go false e s = absurd (eqb-false n 0 e (sym (ap (λ (a : Answer). a .number) s)))
 
@@ -102,9 +101,9 @@ same-past : (p block : List ℕ) (op o : ℕ) (d : List ℕ) → op ≡ opcodeOf
     → runsPast op (eqb (isRead o) 1) d block ≡ runsPast (opcodeOf p) (reads p) (dataOf p) block
 same-past p block op o d e f g = rw (e, f, g)
 
-pub command-placed : (p block : List ℕ) (op o at size : ℕ) (past : Bool) → command op o at size ≡ reading p
+pub command-placed : (p block : List ℕ) (op o at size : ℕ) (past : Bool) → commandAt op o at size ≡ reading p
     → past ≡ runsPast op (eqb (isRead o) 1) (take (at + size - at) (drop at p)) block
-    → cond past (refusedBy 12) (command op o at size) ≡ decision p block
+    → cond past (refusedBy 12) (commandAt op o at size) ≡ decision p block
 unfolding reading decision
 command-placed p block op o at size past h e =
     let z = command-zero (first (refusals p)) p op o at size h in
@@ -119,7 +118,7 @@ command-placed p block op o at size past h e =
     let number : first (readAndPlaced p block) ≡ cond past 12 0 = placed-first p block ∙ rw (z .0, told) in
     go past (z .1) ∙ ap (λ (k : ℕ). answered k p) (sym number)
   where
-    go : (b : Bool) → command op o at size ≡ standing p → cond b (refusedBy 12) (command op o at size) ≡ answered (cond b 12 0) p
+    go : (b : Bool) → commandAt op o at size ≡ standing p → cond b (refusedBy 12) (commandAt op o at size) ≡ answered (cond b 12 0) p
     go true s = refl
     go false s = s
 
@@ -152,7 +151,7 @@ none-read n b h = go (eqb n 0) b refl h
     go true false e h = (eqb-true n 0 e, refl)
     go false b e h = absurd (eqb-false n 0 e h)
 
-pub commanded : (p block : List ℕ) (op o at size : ℕ) → command op o at size ≡ decision p block → Commanded p block op o at size
+pub commanded : (p block : List ℕ) (op o at size : ℕ) → commandAt op o at size ≡ decision p block → Commanded p block op o at size
 unfolding decision judgement
 commanded p block op o at size h =
     let z = command-zero (first (readAndPlaced p block)) p op o at size h in
@@ -226,7 +225,7 @@ pub counts : (block : List ℕ) → settingsRight block ≡ true → Counts bloc
 unfolding settingsRight commandOf
 counts block e =
     let parts = second-fifth (right pictureFields block 0) (shapeRight block stagedShape) (right (fieldsOf 0x36) block enable)
-    (shapeRight block liveShape) (right (fieldsOf 0x38) block smoothTable) (right deviceFields block 497) e in
+    (shapeRight block liveShape) (right (fieldsOf 0x38) block smoothTable) (right deviceFields block updatePlace) e in
     let a = right-all (fieldsOf 0x35) block stagedShape (sides block stagedShape (parts .0)) in
     let b = right-all (fieldsOf 0x38) block smoothTable (parts .1) in
     let columns : columnsAt block stagedShape ≤ 62 = omega arith in
@@ -267,11 +266,6 @@ points-write o d block h e past right =
     points-size : {d : List ℕ} → WriteData 0x34 d → length d ≡ 2 + 4 * countOf d
     points-size (WriteData.points k l) = omega arith
 
-pub record PointsRead (d : List ℕ) : Type 0 where
-  pub sized : length d ≡ 4
-  pub few : wordAt d 2 ≤ 127
-  pub ends : 2 * wordAt d 0 + 2 * wordAt d 2 ≤ 3968
-
 pub points-read : (o : ℕ) (d block : List ℕ) → isRead o ≡ 1 → first (judgement 0x34 o d) ≡ 0
     → runsPast 0x34 (eqb (isRead o) 1) d block ≡ false → settingsRight block ≡ true → PointsRead d
 unfolding runsPast
@@ -292,24 +286,18 @@ gains-write o d block h e past =
       sized = size .0;
       numbers = length-pairs 256 (drop 6 d) ∙ rw length-drop (omega (arith, size .0));
       colour = size .1;
-      ends = ltb-false 2016 (wordAt d 4 + wordAt d 2) (rw h at past);
+      ends = ltb-false third (wordAt d 4 + wordAt d 2) (rw h at past);
     }
   where
     gains-size : {d : List ℕ} → WriteData 0x2B d → (length d ≡ 6 + 2 * wordAt d 2) × (byteAt d 1 ≤ 3)
     gains-size (WriteData.gains k l m n) = omega arith
-
-pub record GainsRead (d : List ℕ) : Type 0 where
-  pub sized : length d ≡ 5
-  pub colour : (1 ≤ byteAt d 0) × (byteAt d 0 ≤ 3)
-  pub few : wordAt d 3 ≤ 254
-  pub ends : wordAt d 1 + wordAt d 3 ≤ 2016
 
 pub gains-read : (o : ℕ) (d block : List ℕ) → isRead o ≡ 1 → first (judgement 0x2B o d) ≡ 0
     → runsPast 0x2B (eqb (isRead o) 1) d block ≡ false → GainsRead d
 unfolding runsPast
 gains-read o d block h e past =
     let size = gains-size (read-data 0x2B o d h e) in
-    record { sized = size .0; colour = size .1; few = size .2; ends = ltb-false 2016 (wordAt d 1 + wordAt d 3) (rw h at past) }
+    record { sized = size .0; colour = size .1; few = size .2; ends = ltb-false third (wordAt d 1 + wordAt d 3) (rw h at past) }
   where
     gains-size : {d : List ℕ} → ReadData 0x2B d → (length d ≡ 5) × ((1 ≤ byteAt d 0) × (byteAt d 0 ≤ 3)) × (wordAt d 3 ≤ 254)
     gains-size (ReadData.gains k l m n) = omega arith

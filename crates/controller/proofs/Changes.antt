@@ -19,6 +19,7 @@ use Rattle.wire.proofs.Tests.{first-silent}
 use Rattle.opcode.proofs.Accepts.Commands.{of-carried}
 use Rattle.opcode.proofs.Accepts.Writes.{silent-write, silent-length}
 use Rattle.packet.specs.Frame.{headerOf, opcodeOf, place, dataSize, dataOf}
+use Rattle.settings.specs.Layout.{blockSize, enable, liveShape, settingsEnd, shapeSize, smoothTable, stagedShape, listsSize}
 use Rattle.settings.specs.Layout.{placeOf, placeIn, places, slot}
 use Rattle.settings.proofs.Fits.{place-fits, write-long}
 use Rattle.controller.specs.State.{State, stopped}
@@ -67,40 +68,40 @@ way p s reply =
 
 -- A copy of n elements into the block: it ends where the settings end, and lies beside the live shape.
 pub record Copy (from : List ℕ) (to n : ℕ) : Type 0 where
-  pub ends : to + n ≤ 865
-  pub beside : min (395 - to) (to + n - 202) ≡ 0
+  pub ends : to + n ≤ settingsEnd
+  pub beside : min (smoothTable - to) (to + n - liveShape) ≡ 0
   pub long : n ≤ length from
 
 -- An accepted 36h write of 1 copies twice: enable, and then the staged shape to the live one's place.
 abbrev pub enabled : List ℕ → List ℕ
-enabled block = paste block 201 (1 ∷ []) 1
+enabled block = paste block enable (1 ∷ []) 1
 
-pub enabled-long : (block : List ℕ) → length block ≡ 1024 → length (enabled block) ≡ 1024
-enabled-long block l = length-paste block 201 (1 ∷ []) 1 (omega arith) (omega arith) ∙ l
+pub enabled-long : (block : List ℕ) → length block ≡ blockSize → length (enabled block) ≡ blockSize
+enabled-long block l = length-paste block enable (1 ∷ []) 1 (omega arith) (omega arith) ∙ l
 
-pub applied-long : (block : List ℕ) → length block ≡ 1024 → length (paste (enabled block) 202 (drop 8 block) 193) ≡ 1024
+pub applied-long : (block : List ℕ) → length block ≡ blockSize → length (paste (enabled block) liveShape (drop stagedShape block) shapeSize) ≡ blockSize
 applied-long block l =
     let long = enabled-long block l in
-    length-paste (enabled block) 202 (drop 8 block) 193 (omega arith) (rw length-drop (omega arith)) ∙ long
+    length-paste (enabled block) liveShape (drop stagedShape block) shapeSize (omega arith) (rw length-drop (omega arith)) ∙ long
 
 pub data Change (op : ℕ) (d block after : List ℕ) : Type 0 where
   none : after ≡ block → Change op d block after
   copied : (from : List ℕ) (to n : ℕ) → Copy from to n → after ≡ paste block to from n → Change op d block after
-  applied : op ≡ 0x36 → byteAt d 0 ≡ 1 → after ≡ paste (enabled block) 202 (drop 8 block) 193 → Change op d block after
+  applied : op ≡ 0x36 → byteAt d 0 ≡ 1 → after ≡ paste (enabled block) liveShape (drop stagedShape block) shapeSize → Change op d block after
 
 -- Computed for every command: its place lies behind the live shape; or it has one place alone, before it.
 abbrev Aside : ℕ → Type 0
-Aside op = min (395 - placeIn op places .first) (placeIn op places .first + 1000 * placeIn op places .step + commandOf op .back - 202) ≡ 0
+Aside op = min (smoothTable - placeIn op places .first) (placeIn op places .first + 1000 * placeIn op places .step + commandOf op .back - liveShape) ≡ 0
 
 -- A command with several places has all of them behind the live shape.
-far : (at by back : ℕ) → min (395 - at) (at + 1000 * by + back - 202) ≡ 0 → 1 ≤ by → 395 ≤ at
+far : (at by back : ℕ) → min (smoothTable - at) (at + 1000 * by + back - liveShape) ≡ 0 → 1 ≤ by → smoothTable ≤ at
 far at by back h some = omega arith
 
-beside-far : (at n : ℕ) → 395 ≤ at → min (395 - at) (at + n - 202) ≡ 0
+beside-far : (at n : ℕ) → smoothTable ≤ at → min (smoothTable - at) (at + n - liveShape) ≡ 0
 beside-far at n h = omega arith
 
-aside-place : (at by times back : ℕ) → min (395 - at) (at + 1000 * by + back - 202) ≡ 0
-    → min (395 - (at + by * times)) (at + by * times + back - 202) ≡ 0
+aside-place : (at by times back : ℕ) → min (smoothTable - at) (at + 1000 * by + back - liveShape) ≡ 0
+    → min (smoothTable - (at + by * times)) (at + by * times + back - liveShape) ≡ 0
 aside-place at by times back h =
     elim (ℕ-discrete by 0) [
       | yes e ↦
@@ -130,13 +131,13 @@ module _ (op o : ℕ) (d : List ℕ) (h : isRead o ≡ 0) (e : first (judgement 
         long = rw length-drop (omega (arith, write-long write-allowed h m));
       }
 
-shape-copy : {d : List ℕ} → WriteData 0x35 d → Copy (shapeBytes d) 8 (length (shapeBytes d))
+shape-copy : {d : List ℕ} → WriteData 0x35 d → Copy (shapeBytes d) stagedShape (length (shapeBytes d))
 unfolding shapeBytes
 shape-copy (WriteData.shape h i j k) = omega arith
 shape-copy (WriteData.lists xs ys ex ey rx ry) =
-    let long : length (xs ++ ys) ≡ 188 = rw length-append (omega arith) in omega arith
+    let long : length (xs ++ ys) ≡ listsSize = rw length-append (omega arith) in omega arith
 
-smooth-copy : {d : List ℕ} → WriteData 0x38 d → Copy d 395 (length d)
+smooth-copy : {d : List ℕ} → WriteData 0x38 d → Copy d smoothTable (length d)
 smooth-copy w = let long = smooth-size w in omega arith
 
 -- What a write that is accepted leaves of the block.
@@ -150,17 +151,17 @@ changed op o d block h e =
             | yes m ↦ Change.none (rw m)
             | no m ↦
                 elim (ℕ-discrete op 0x35) [
-                  | yes c ↦ Change.copied (shapeBytes d) 8 (length (shapeBytes d)) (shape-copy (write-data 0x35 o d h (rw c at e))) (rw c)
+                  | yes c ↦ Change.copied (shapeBytes d) stagedShape (length (shapeBytes d)) (shape-copy (write-data 0x35 o d h (rw c at e))) (rw c)
                   | no c ↦
                       elim (ℕ-discrete op 0x36) [
                         | yes a ↦
                             elim (ℕ-discrete (byteAt d 0) 1) [
                               | yes v ↦ Change.applied a v (rw (a, v))
-                              | no v ↦ Change.copied (0 ∷ []) 201 1 (omega arith) (rw (a, ne-eqb (byteAt d 0) 1 v))
+                              | no v ↦ Change.copied (0 ∷ []) enable 1 (omega arith) (rw (a, ne-eqb (byteAt d 0) 1 v))
                             ]
                         | no a ↦
                             elim (ℕ-discrete op 0x38) [
-                              | yes t ↦ Change.copied d 395 (length d) (smooth-copy (write-data 0x38 o d h (rw t at e))) (rw t)
+                              | yes t ↦ Change.copied d smoothTable (length d) (smooth-copy (write-data 0x38 o d h (rw t at e))) (rw t)
                               | no t ↦
                                   Change.copied (drop (commandOf op .read) d) (placeOf op d) (commandOf op .back)
                                   (fixed-copy op o d h e (fixed-rest op o d e g m c t))
@@ -171,7 +172,7 @@ changed op o d block h e =
           ]
     ]
 
-pub changed-long : {op : ℕ} {d block after : List ℕ} → Change op d block after → length block ≡ 1024 → length after ≡ 1024
+pub changed-long : {op : ℕ} {d block after : List ℕ} → Change op d block after → length block ≡ blockSize → length after ≡ blockSize
 changed-long (Change.none e) l = rw e l
 changed-long {op} {d} {block} (Change.copied from to n c e) l = rw (e, length-paste block to from n (omega arith) (c .long)) l
 changed-long {op} {d} {block} (Change.applied a v e) l = rw e (applied-long block l)

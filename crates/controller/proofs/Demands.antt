@@ -24,7 +24,7 @@ use Rattle.packet.proofs.Exactly.{exactly}
 use Rattle.settings.specs.Ranges.{settingsRight}
 use Rattle.settings.proofs.Allowed.{settings-exactly, reset-allowed}
 use Rattle.settings.proofs.AfterReset.{reset-bytes, reset-points, reset-gains}
-use Rattle.controller.specs.State.{State, lengthsRight, stopped, ResetOut, reset}
+use Rattle.controller.specs.State.{State, lengthsRight, stopped, ResetOut, reset, replyRoom}
 use Rattle.controller.specs.Commands.{runsPast}
 use Rattle.controller.specs.Step.{reads, readAndPlaced, decision, stepRefusals, numberOf, emptyReply, replyTo, Out, out, step}
 use Rattle.controller.specs.Demands.{StateLent, LentRight, Demand1, Demand2, Placed, Accepted, Resets}
@@ -62,7 +62,7 @@ state-lent s = (
 
 pub record Running (s : State) (reply : List ℕ) : Type 0 where
   pub tables : StateLent s
-  pub room : 512 ≤ length reply
+  pub room : replyRoom ≤ length reply
   pub settings : settingsRight (s .block) ≡ true
 
 pub lent : (s : State) (reply : List ℕ) → stopped s reply ≡ false → Running s reply

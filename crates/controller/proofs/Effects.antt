@@ -9,6 +9,7 @@ use Rattle.opcode.specs.Options.{isRead}
 use Rattle.opcode.specs.Commands.{commandOf}
 use Rattle.opcode.specs.Allowed.{SendsNothing, ReadData, WriteData, Allowed}
 use Rattle.settings.specs.Allowed.{ShapeCounts, SettingsAllowed}
+use Rattle.settings.specs.Layout.{lockPlace, updatePlace}
 use Rattle.settings.specs.Layout.{placeOf}
 use Rattle.settings.proofs.Fits.{own-slot}
 use Rattle.controller.specs.State.{State}
@@ -25,8 +26,8 @@ leaves {d = d} Leaves.curtain = let here : 4 + 0 * byteAt d 0 ≡ 4 = omega arit
 leaves {d = d} Leaves.splash = let here : 5 + 0 * byteAt d 0 ≡ 5 = omega arith in rw here
 leaves {d = d} Leaves.flip = let here : 6 + 0 * byteAt d 0 ≡ 6 = omega arith in rw here
 leaves {d = d} Leaves.freeze = let here : 7 + 0 * byteAt d 0 ≡ 7 = omega arith in rw here
-leaves {d = d} Leaves.update = let here : 497 + 0 * byteAt d 0 ≡ 497 = omega arith in rw here
-leaves {d = d} Leaves.lock = let here : 834 + 0 * byteAt d 0 ≡ 834 = omega arith in rw here
+leaves {d = d} Leaves.update = let here : updatePlace + 0 * byteAt d 0 ≡ updatePlace = omega arith in rw here
+leaves {d = d} Leaves.lock = let here : lockPlace + 0 * byteAt d 0 ≡ lockPlace = omega arith in rw here
 leaves Leaves.pin = refl
 leaves Leaves.level = refl
 leaves {d = d} (Leaves.pwm h) = rw (own-slot d h)

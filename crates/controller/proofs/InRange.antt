@@ -25,12 +25,13 @@ use Rattle.opcode.proofs.Accepts.Lists.{words-part, rising-rise}
 use Rattle.packet.specs.Frame.{headerOf, opcodeOf, dataOf}
 use Rattle.packet.specs.Points.{writePoints, startOf, pointsOf}
 use Rattle.packet.proofs.Exactly.{bytes-of-data}
+use Rattle.settings.specs.Layout.{blockSize, enable, liveShape, shapeSize, smoothTable, stagedShape, updatePlace, columnList, rowList, columnEntries, rowEntries, listsSize, shapeHead}
 use Rattle.settings.specs.Layout.{placeOf, stored}
 use Rattle.settings.specs.Ranges.{right, fieldsOf, pictureFields, deviceFields, rising, shapeRight, settingsRight}
 use Rattle.settings.proofs.Same.{Same, front, widths, right-same, words-same, shape-same, paste-there, paste-apart}
 use Rattle.settings.proofs.Stays.{Parts, parts, whole, kept, kept-shape, all-right, stays}
-use Rattle.controller.specs.State.{State}
-use Rattle.controller.specs.Commands.{gainsWords, gainsInto, writeGains, shapeBytes, writeShape, applyBlock, applyLive, writeSmooth, blockAfter, written, runsPast}
+use Rattle.controller.specs.State.{State, replyRoom}
+use Rattle.controller.specs.Commands.{gainsWords, gainsInto, writeGains, shapeBytes, writeShape, applyBlock, applyLive, writeSmooth, blockAfter, written, runsPast, third}
 use Rattle.controller.specs.Step.{numberOf, replyTo, step}
 use Rattle.controller.specs.Internal.{PointsWrite, GainsWrite}
 use Rattle.controller.specs.Demands.{LentRight}
@@ -38,16 +39,17 @@ use Rattle.controller.proofs.Demands.{Running, running-right, right-run
 use Rattle.controller.proofs.Bounds.{write-data, points-write, gains-write}
 use Rattle.controller.proofs.Sizes.{smooth-size, fixed-rest}
 use Rattle.controller.proofs.Changes.{Way, way, changed, changed-long, enabled, enabled-long, write-allowed}
+use Rattle.settings.specs.Reset.{gainsSize, mapSize}
 
 -- ---- Settings.
 
 -- A copy between the picture's settings and the device's: the parts that it may change, and those that it lies apart from.
 module _ (block from : List ℕ) (to n : ℕ) (room : to + n ≤ length block) (long : n ≤ length from) (q : Parts block) where
-  between : 8 ≤ to → to + n ≤ 497
-      → shapeRight (paste block to from n) 8 ≡ true
-      → right (fieldsOf 0x36) (paste block to from n) 201 ≡ true
-      → shapeRight (paste block to from n) 202 ≡ true
-      → right (fieldsOf 0x38) (paste block to from n) 395 ≡ true
+  between : stagedShape ≤ to → to + n ≤ updatePlace
+      → shapeRight (paste block to from n) stagedShape ≡ true
+      → right (fieldsOf 0x36) (paste block to from n) enable ≡ true
+      → shapeRight (paste block to from n) liveShape ≡ true
+      → right (fieldsOf 0x38) (paste block to from n) smoothTable ≡ true
       → settingsRight (paste block to from n) ≡ true
   unfolding widths commandOf pictureFields deviceFields
   between low high staged enabled live smooth =
@@ -58,22 +60,22 @@ module _ (block from : List ℕ) (to n : ℕ) (room : to + n ≤ length block) (
         enabled = enabled;
         live = live;
         smooth = smooth;
-        device = kept block from to n room long deviceFields 497 refl (omega arith) (q .device);
+        device = kept block from to n room long deviceFields updatePlace refl (omega arith) (q .device);
       })
 
-  staged-kept : 201 ≤ to → shapeRight (paste block to from n) 8 ≡ true
-  staged-kept h = kept-shape block from to n room long 8 (omega arith) (q .staged)
+  staged-kept : enable ≤ to → shapeRight (paste block to from n) stagedShape ≡ true
+  staged-kept h = kept-shape block from to n room long stagedShape (omega arith) (q .staged)
 
-  enabled-kept : min (202 - to) (to + n - 201) ≡ 0 → right (fieldsOf 0x36) (paste block to from n) 201 ≡ true
+  enabled-kept : min (liveShape - to) (to + n - enable) ≡ 0 → right (fieldsOf 0x36) (paste block to from n) enable ≡ true
   unfolding widths commandOf
-  enabled-kept h = kept block from to n room long (fieldsOf 0x36) 201 refl h (q .enabled)
+  enabled-kept h = kept block from to n room long (fieldsOf 0x36) enable refl h (q .enabled)
 
-  live-kept : min (395 - to) (to + n - 202) ≡ 0 → shapeRight (paste block to from n) 202 ≡ true
-  live-kept h = kept-shape block from to n room long 202 h (q .live)
+  live-kept : min (smoothTable - to) (to + n - liveShape) ≡ 0 → shapeRight (paste block to from n) liveShape ≡ true
+  live-kept h = kept-shape block from to n room long liveShape h (q .live)
 
-  smooth-kept : to + n ≤ 395 → right (fieldsOf 0x38) (paste block to from n) 395 ≡ true
+  smooth-kept : to + n ≤ smoothTable → right (fieldsOf 0x38) (paste block to from n) smoothTable ≡ true
   unfolding widths commandOf
-  smooth-kept h = kept block from to n room long (fieldsOf 0x38) 395 refl (omega arith) (q .smooth)
+  smooth-kept h = kept block from to n room long (fieldsOf 0x38) smoothTable refl (omega arith) (q .smooth)
 
 -- 35h in mode 1: 62 columns, 32 rows, and lists that rise.
 rises : (ws : List ℕ) (s : List ℕ) (n : ℕ) → ws ≡ words s → length s ≡ 2 * n → Rising (words s) → rise ws ≡ n
@@ -84,42 +86,42 @@ lists-right : (xs ys : List ℕ) → length xs ≡ 124 → length ys ≡ 64 → 
 unfolding shapeRight right commandOf
 lists-right xs ys ex ey rx ry =
     let d : List ℕ = 1 ∷ 62 ∷ 0 ∷ 32 ∷ 0 ∷ (xs ++ ys) in
-    let long : length (xs ++ ys) ≡ 188 = rw length-append (omega arith) in
+    let long : length (xs ++ ys) ≡ listsSize = rw length-append (omega arith) in
     let columns : wordsAt d 5 62 ≡ words xs = words-part 62 d 5 (omega arith) ∙ rw (take-at xs ys 124 ex) in
     let rows : wordsAt d 129 32 ≡ words ys = words-part 32 d 129 (omega arith) ∙ rw (drop-at xs ys 124 ex, take-all 64 ys (omega arith)) in
     rw (rises (wordsAt d 5 62) xs 62 columns ex rx, rises (wordsAt d 129 32) ys 32 rows ey ry)
 
 -- In mode 0: the counts written, and the lists as they were.
-counts-right : (block : List ℕ) (c₀ c₁ r₀ r₁ : ℕ) → 13 ≤ length block → shapeRight block 8 ≡ true
+counts-right : (block : List ℕ) (c₀ c₁ r₀ r₁ : ℕ) → columnList stagedShape ≤ length block → shapeRight block stagedShape ≡ true
     → right (fieldsOf 0x35) (0 ∷ c₀ ∷ c₁ ∷ r₀ ∷ r₁ ∷ []) 0 ≡ true
-    → shapeRight (paste block 8 (0 ∷ c₀ ∷ c₁ ∷ r₀ ∷ r₁ ∷ []) 5) 8 ≡ true
+    → shapeRight (paste block stagedShape (0 ∷ c₀ ∷ c₁ ∷ r₀ ∷ r₁ ∷ []) 5) stagedShape ≡ true
 unfolding shapeRight widths commandOf
 counts-right block c₀ c₁ r₀ r₁ l old new =
     let d : List ℕ = 0 ∷ c₀ ∷ c₁ ∷ r₀ ∷ r₁ ∷ [] in
-    let there = paste-there block d 8 5 (omega arith) (omega arith) in
-    let columns : rising block 13 62 ≡ true = search told in
-    let rows : rising block 137 32 ≡ true = search told in
-    let mode : byteAt (paste block 8 d 5) 8 ≡ 0 = there .each 0 (omega arith) in
+    let there = paste-there block d stagedShape 5 (omega arith) (omega arith) in
+    let columns : rising block (columnList stagedShape) columnEntries ≡ true = search told in
+    let rows : rising block (rowList stagedShape) rowEntries ≡ true = search told in
+    let mode : byteAt (paste block stagedShape d 5) stagedShape ≡ 0 = there .each 0 (omega arith) in
     rw (
       right-same (fieldsOf 0x35) refl there,
       new,
       mode,
-      words-same 62 (paste-apart block d 8 5 (omega arith) (omega arith) 13 124 (omega arith)),
-      words-same 32 (paste-apart block d 8 5 (omega arith) (omega arith) 137 64 (omega arith)),
+      words-same columnEntries (paste-apart block d stagedShape shapeHead (omega arith) (omega arith) (columnList stagedShape) 124 (omega arith)),
+      words-same rowEntries (paste-apart block d stagedShape shapeHead (omega arith) (omega arith) (rowList stagedShape) 64 (omega arith)),
       columns,
       rows,
     )
 
 -- Either way the other settings are kept.
-shape-put : (block from : List ℕ) (n : ℕ) → n ≤ 193 → n ≤ length from → length block ≡ 1024 → settingsRight block ≡ true
-    → shapeRight (paste block 8 from n) 8 ≡ true → settingsRight (paste block 8 from n) ≡ true
+shape-put : (block from : List ℕ) (n : ℕ) → n ≤ shapeSize → n ≤ length from → length block ≡ blockSize → settingsRight block ≡ true
+    → shapeRight (paste block stagedShape from n) stagedShape ≡ true → settingsRight (paste block stagedShape from n) ≡ true
 shape-put block from n small long l e new =
-    let room : 8 + n ≤ length block = omega arith in
+    let room : stagedShape + n ≤ length block = omega arith in
     let q = parts block e in
-    between block from 8 n room long q (omega arith) (omega arith) new (enabled-kept block from 8 n room long q (omega arith))
-    (live-kept block from 8 n room long q (omega arith)) (smooth-kept block from 8 n room long q (omega arith))
+    between block from stagedShape n room long q (omega arith) (omega arith) new (enabled-kept block from stagedShape n room long q (omega arith))
+    (live-kept block from stagedShape n room long q (omega arith)) (smooth-kept block from stagedShape n room long q (omega arith))
 
-shape-stays : {d : List ℕ} (block : List ℕ) → WriteData 0x35 d → length block ≡ 1024 → settingsRight block ≡ true
+shape-stays : {d : List ℕ} (block : List ℕ) → WriteData 0x35 d → length block ≡ blockSize → settingsRight block ≡ true
     → settingsRight (writeShape d block) ≡ true
 unfolding writeShape shapeBytes commandOf
 shape-stays {d} block (WriteData.shape {c₀} {c₁} {r₀} {r₁} h i j k) l e =
@@ -127,34 +129,34 @@ shape-stays {d} block (WriteData.shape {c₀} {c₁} {r₀} {r₁} h i j k) l e 
     (counts-right block c₀ c₁ r₀ r₁ (omega arith) (parts block e .staged) (all-right (fieldsOf 0x35) (omega arith) d 0 (omega arith)))
 shape-stays {d} block (WriteData.lists xs ys ex ey rx ry) l e =
     let from : List ℕ = 1 ∷ 62 ∷ 0 ∷ 32 ∷ 0 ∷ (xs ++ ys) in
-    let long : length from ≡ 193 = omega (arith, length-append xs ys) in
+    let long : length from ≡ shapeSize = omega (arith, length-append xs ys) in
     shape-put block from (length from) (omega arith) (omega arith) l e
-    (shape-same (front (paste-there block from 8 (length from) (omega arith) (omega arith)) 193 (omega arith)) ∙ lists-right xs ys ex ey rx ry)
+    (shape-same (front (paste-there block from stagedShape (length from) (omega arith) (omega arith)) shapeSize (omega arith)) ∙ lists-right xs ys ex ey rx ry)
 
 -- 38h: the two counts.
 smooth-right : {d : List ℕ} → WriteData 0x38 d → (2 ≤ length d) × (right (fieldsOf 0x38) d 0 ≡ true)
 unfolding commandOf
 smooth-right {d} (WriteData.smooth h i j k s) = (omega arith, all-right (fieldsOf 0x38) (omega arith) d 0 (omega arith))
 
-smooth-stays : {d : List ℕ} (block : List ℕ) → WriteData 0x38 d → length block ≡ 1024 → settingsRight block ≡ true
+smooth-stays : {d : List ℕ} (block : List ℕ) → WriteData 0x38 d → length block ≡ blockSize → settingsRight block ≡ true
     → settingsRight (writeSmooth d block) ≡ true
 unfolding writeSmooth widths commandOf
 smooth-stays {d} block w l e =
     let small : length d ≤ 102 = smooth-size w in
     let new = smooth-right w in
-    let room : 395 + length d ≤ length block = omega arith in
+    let room : smoothTable + length d ≤ length block = omega arith in
     let long : length d ≤ length d = omega arith in
     let q = parts block e in
-    between block d 395 (length d) room long q (omega arith) (omega arith) (staged-kept block d 395 (length d) room long q (omega arith))
-    (enabled-kept block d 395 (length d) room long q (omega arith))
-    (live-kept block d 395 (length d) room long q (omega arith))
-    (right-same (fieldsOf 0x38) refl (front (paste-there block d 395 (length d) room long) 2 (new .0)) ∙ new .1)
+    between block d smoothTable (length d) room long q (omega arith) (omega arith) (staged-kept block d smoothTable (length d) room long q (omega arith))
+    (enabled-kept block d smoothTable (length d) room long q (omega arith))
+    (live-kept block d smoothTable (length d) room long q (omega arith))
+    (right-same (fieldsOf 0x38) refl (front (paste-there block d smoothTable (length d) room long) 2 (new .0)) ∙ new .1)
 
 -- 36h: enable as the fixed writes; and the staged shape, in range, stands in the live one's place.
 enable-put : {d : List ℕ} → WriteData 0x36 d → (block : List ℕ) → settingsRight (stored 0x36 d block) ≡ true
-    → settingsRight (paste block 201 (byteAt d 0 ∷ []) 1) ≡ true
+    → settingsRight (paste block enable (byteAt d 0 ∷ []) 1) ≡ true
 unfolding commandOf placeOf
-enable-put (WriteData.apply {v} h) block e = let here : 201 + 0 * v ≡ 201 = omega arith in rw here at e
+enable-put (WriteData.apply {v} h) block e = let here : enable + 0 * v ≡ enable = omega arith in rw here at e
 
 enable-zero : {d : List ℕ} → WriteData 0x36 d → (byteAt d 0 ≡ 1 → ⊥) → byteAt d 0 ≡ 0
 enable-zero (WriteData.apply h) v = omega arith
@@ -164,23 +166,23 @@ unfolding commandOf
 fixed-36 = refl
 
 module _ (o : ℕ) (d block : List ℕ) (bytes : (k : ℕ) → getD d k 0 < 256) (h : isRead o ≡ 0) (j : first (judgement 0x36 o d) ≡ 0)
-    (l : length block ≡ 1024) (e : settingsRight block ≡ true) where
-  enable-stays : settingsRight (paste block 201 (byteAt d 0 ∷ []) 1) ≡ true
+    (l : length block ≡ blockSize) (e : settingsRight block ≡ true) where
+  enable-stays : settingsRight (paste block enable (byteAt d 0 ∷ []) 1) ≡ true
   enable-stays =
       enable-put (write-data 0x36 o d h j) block (stays block bytes (write-allowed 0x36 o d h j) h fixed-36 l e)
 
-  live-put : settingsRight (enabled block) ≡ true → settingsRight (paste (enabled block) 202 (drop 8 block) 193) ≡ true
+  live-put : settingsRight (enabled block) ≡ true → settingsRight (paste (enabled block) liveShape (drop stagedShape block) shapeSize) ≡ true
   live-put f =
       let all = enabled-long block l in
-      let room : 202 + 193 ≤ length (enabled block) = omega arith in
-      let long : 193 ≤ length (drop 8 block) = rw length-drop (omega arith) in
+      let room : liveShape + shapeSize ≤ length (enabled block) = omega arith in
+      let long : shapeSize ≤ length (drop stagedShape block) = rw length-drop (omega arith) in
       let q = parts (enabled block) f in
-      let staged : Same (drop 8 block) 0 block 8 193 = record { each = λ k lt. let z : 0 + k ≡ k = omega arith in rw z (getD-drop 8 block k 0) } in
-      between (enabled block) (drop 8 block) 202 193 room long q (omega arith) (omega arith)
-      (staged-kept (enabled block) (drop 8 block) 202 193 room long q (omega arith))
-      (enabled-kept (enabled block) (drop 8 block) 202 193 room long q (omega arith))
-      (shape-same (paste-there (enabled block) (drop 8 block) 202 193 room long) ∙ shape-same staged ∙ parts block e .staged)
-      (smooth-kept (enabled block) (drop 8 block) 202 193 room long q (omega arith))
+      let staged : Same (drop stagedShape block) 0 block stagedShape shapeSize = record { each = λ k lt. let z : 0 + k ≡ k = omega arith in rw z (getD-drop stagedShape block k 0) } in
+      between (enabled block) (drop stagedShape block) liveShape shapeSize room long q (omega arith) (omega arith)
+      (staged-kept (enabled block) (drop stagedShape block) liveShape shapeSize room long q (omega arith))
+      (enabled-kept (enabled block) (drop stagedShape block) liveShape shapeSize room long q (omega arith))
+      (shape-same (paste-there (enabled block) (drop stagedShape block) liveShape shapeSize room long) ∙ shape-same staged ∙ parts block e .staged)
+      (smooth-kept (enabled block) (drop stagedShape block) liveShape shapeSize room long q (omega arith))
 
   apply-stays : settingsRight (applyBlock d block) ≡ true
   unfolding applyBlock
@@ -193,7 +195,7 @@ module _ (o : ℕ) (d block : List ℕ) (bytes : (k : ℕ) → getD d k 0 < 256)
       ]
 
 settings-stay : (op o : ℕ) (d block : List ℕ) → ((k : ℕ) → getD d k 0 < 256) → isRead o ≡ 0 → first (judgement op o d) ≡ 0
-    → length block ≡ 1024 → settingsRight block ≡ true → settingsRight (blockAfter op d block) ≡ true
+    → length block ≡ blockSize → settingsRight block ≡ true → settingsRight (blockAfter op d block) ≡ true
 unfolding blockAfter
 settings-stay op o d block bytes h j l e =
     elim (ℕ-discrete op 0x2B) [
@@ -221,13 +223,13 @@ settings-stay op o d block bytes h j l e =
 
 -- ---- Tables.
 
-points-long : (d staged : List ℕ) → PointsWrite d → length staged ≡ 3968 → length (writePoints (startOf d) (pointsOf d) staged) ≡ 3968
+points-long : (d staged : List ℕ) → PointsWrite d → length staged ≡ mapSize → length (writePoints (startOf d) (pointsOf d) staged) ≡ mapSize
 points-long d staged w l = length-paste staged (2 * startOf d) (pointsOf d) (length (pointsOf d)) (omega arith) (omega arith) ∙ l
 
-into-long : (gains : List ℕ) (place : ℕ) (ws : List ℕ) → length gains ≡ 6048 → place + length ws ≤ 6048 → length (gainsInto gains place ws) ≡ 6048
+into-long : (gains : List ℕ) (place : ℕ) (ws : List ℕ) → length gains ≡ gainsSize → place + length ws ≤ gainsSize → length (gainsInto gains place ws) ≡ gainsSize
 into-long gains place ws l h = length-paste gains place ws (length ws) (omega arith) (omega arith) ∙ l
 
-gains-long : (d gains : List ℕ) → GainsWrite d → length gains ≡ 6048 → length (writeGains d gains) ≡ 6048
+gains-long : (d gains : List ℕ) → GainsWrite d → length gains ≡ gainsSize → length (writeGains d gains) ≡ gainsSize
 unfolding writeGains
 gains-long d gains w l =
     let ws : List ℕ = gainsWords d in
@@ -235,12 +237,12 @@ gains-long d gains w l =
     elim (ℕ-discrete (byteAt d 1) 0) [
       | yes z ↦
           let one = into-long gains start ws l (omega arith) in
-          let two = into-long (gainsInto gains start ws) (2016 + start) ws one (omega arith) in
-          rw z (into-long (gainsInto (gainsInto gains start ws) (2016 + start) ws) (4032 + start) ws two (omega arith))
-      | no z ↦ rw (ne-eqb (byteAt d 1) 0 z) (into-long gains (2016 * (byteAt d 1 - 1) + start) ws l (omega arith))
+          let two = into-long (gainsInto gains start ws) (third + start) ws one (omega arith) in
+          rw z (into-long (gainsInto (gainsInto gains start ws) (third + start) ws) (2 * third + start) ws two (omega arith))
+      | no z ↦ rw (ne-eqb (byteAt d 1) 0 z) (into-long gains (third * (byteAt d 1 - 1) + start) ws l (omega arith))
     ]
 
-live-long : (d staged live : List ℕ) → length staged ≡ 3968 → length live ≡ 3968 → length (applyLive d staged live) ≡ 3968
+live-long : (d staged live : List ℕ) → length staged ≡ mapSize → length live ≡ mapSize → length (applyLive d staged live) ≡ mapSize
 unfolding applyLive
 live-long d staged live ls ll =
     elim (ℕ-discrete (byteAt d 0) 1) [
@@ -255,7 +257,7 @@ over-long s buffer = simp (length-append, length-drop) (omega arith)
 -- ---- The state.
 
 written-lent : (op o : ℕ) (d : List ℕ) (s : State) (reply reply′ : List ℕ) → ((k : ℕ) → getD d k 0 < 256) → isRead o ≡ 0
-    → first (judgement op o d) ≡ 0 → runsPast op (eqb (isRead o) 1) d (s .block) ≡ false → 512 ≤ length reply′ → Running s reply
+    → first (judgement op o d) ≡ 0 → runsPast op (eqb (isRead o) 1) d (s .block) ≡ false → replyRoom ≤ length reply′ → Running s reply
     → Running (written op d s) reply′
 unfolding written
 written-lent op o d s reply reply′ bytes h j past room l =
@@ -291,7 +293,7 @@ stays-lent p bytes s reply right = running-right (go (way p s reply))
     l : Running s reply
     l = right-running right
 
-    room : 512 ≤ length (step p s reply .reply)
+    room : replyRoom ≤ length (step p s reply .reply)
     room = omega (arith, over-long (replyTo (numberOf p s reply) p s) reply, l .room)
 
     go : Way p s reply → Running (step p s reply .state) (step p s reply .reply)

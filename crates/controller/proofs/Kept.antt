@@ -11,6 +11,7 @@ use Rattle.controller.specs.State.{State}
 use Rattle.controller.specs.Commands.{written}
 use Rattle.controller.specs.Step.{step}
 use Rattle.controller.proofs.Changes.{Way, way, Change, changed, enabled, enabled-long}
+use Rattle.settings.specs.Layout.{blockSize, enable, liveShape, settingsEnd, shapeSize, stagedShape}
 
 -- A copy leaves what lies behind it.
 behind-paste : (d : List ℕ) (at : ℕ) (s : List ℕ) (n i : ℕ) → at + n ≤ i → at + n ≤ length d → n ≤ length s → drop i (paste d at s n) ≡ drop i d
@@ -21,21 +22,21 @@ behind-paste d at s n i h hd hs =
     rw here at
     (sym (drop-drop more (at + n) (paste d at s n)) ∙ ap (drop more) there ∙ drop-drop more (at + n) d)
 
-tail-changed : {op : ℕ} {d block after : List ℕ} → Change op d block after → length block ≡ 1024 → drop 865 after ≡ drop 865 block
+tail-changed : {op : ℕ} {d block after : List ℕ} → Change op d block after → length block ≡ blockSize → drop settingsEnd after ≡ drop settingsEnd block
 tail-changed (Change.none e) l = rw e
 tail-changed {op} {d} {block} (Change.copied from to n c e) l =
-    rw e (behind-paste block to from n 865 (c .ends) (omega arith) (c .long))
+    rw e (behind-paste block to from n settingsEnd (c .ends) (omega arith) (c .long))
 tail-changed {op} {d} {block} (Change.applied a v e) l =
     let long = enabled-long block l in
     rw e
-    (behind-paste (enabled block) 202 (drop 8 block) 193 865 (omega arith) (omega arith) (rw length-drop (omega arith))
-    ∙ behind-paste block 201 (1 ∷ []) 1 865 (omega arith) (omega arith) (omega arith))
+    (behind-paste (enabled block) liveShape (drop stagedShape block) shapeSize settingsEnd (omega arith) (omega arith) (rw length-drop (omega arith))
+    ∙ behind-paste block enable (1 ∷ []) 1 settingsEnd (omega arith) (omega arith) (omega arith))
 
-pub tail-kept : (p : List ℕ) (s : State) (reply : List ℕ) → drop 865 (step p s reply .state .block) ≡ drop 865 (s .block)
+pub tail-kept : (p : List ℕ) (s : State) (reply : List ℕ) → drop settingsEnd (step p s reply .state .block) ≡ drop settingsEnd (s .block)
 unfolding written
 tail-kept p s reply = go (way p s reply)
   where
-    go : Way p s reply → drop 865 (step p s reply .state .block) ≡ drop 865 (s .block)
+    go : Way p s reply → drop settingsEnd (step p s reply .state .block) ≡ drop settingsEnd (s .block)
     go (Way.same e) = rw e
     go (Way.wrote st r a e) =
         rw e

@@ -20,6 +20,7 @@ use Rattle.controller.specs.Step.{step}
 use Rattle.controller.specs.Demands.{Applies, LiveKept}
 use Rattle.controller.specs.Calls.{Call, stateAfterAll, NoneApplies}
 use Rattle.controller.proofs.Changes.{Way, way, Change, changed}
+use Rattle.settings.specs.Layout.{blockSize, liveShape, shapeSize}
 
 -- Equal elements make equal parts.
 same-part : {a b : List ℕ} {i j n : ℕ} → Same a i b j n → i + n ≤ length a → j + n ≤ length b → take n (drop i a) ≡ take n (drop j b)
@@ -32,13 +33,13 @@ same-part {a} {b} {i} {j} {n} h la lb =
     getD-take n (drop i a) k 0 inside ∙ getD-drop i a k 0 ∙ h .each k inside ∙ sym (getD-drop j b k 0)
     ∙ sym (getD-take n (drop j b) k 0 inside))
 
-shape-changed : {op : ℕ} {d block after : List ℕ} → (op ≡ 0x36 → byteAt d 0 ≡ 1 → ⊥) → Change op d block after → length block ≡ 1024
-    → take 193 (drop 202 block) ≡ take 193 (drop 202 after)
+shape-changed : {op : ℕ} {d block after : List ℕ} → (op ≡ 0x36 → byteAt d 0 ≡ 1 → ⊥) → Change op d block after → length block ≡ blockSize
+    → take shapeSize (drop liveShape block) ≡ take shapeSize (drop liveShape after)
 shape-changed other (Change.none e) l = rw e
 shape-changed {op} {d} {block} other (Change.copied from to n c e) l =
     let room : to + n ≤ length block = omega arith in
     let long : length (paste block to from n) ≡ length block = length-paste block to from n room (c .long) in
-    rw e (sym (same-part (paste-apart block from to n room (c .long) 202 193 (c .beside)) (omega arith) (omega arith)))
+    rw e (sym (same-part (paste-apart block from to n room (c .long) liveShape shapeSize (c .beside)) (omega arith) (omega arith)))
 shape-changed other (Change.applied a v e) l = absurd (other a v)
 
 live-written : (op : ℕ) (d staged live : List ℕ) → (op ≡ 0x36 → byteAt d 0 ≡ 1 → ⊥) → live ≡ cond (eqb op 0x36) (applyLive d staged live) live

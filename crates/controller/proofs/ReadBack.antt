@@ -23,9 +23,9 @@ use Rattle.reply.specs.Reply.{replyBytes}
 use Rattle.reply.specs.Reading.{sumSize}
 use Rattle.reply.proofs.Laws.{length-reply}
 use Rattle.reply.proofs.ReadsBack.{reads-back}
-use Rattle.settings.specs.Layout.{stagedShape, smoothTable, modeAt, placeOf}
+use Rattle.settings.specs.Layout.{stagedShape, smoothTable, modeAt, placeOf, listsSize, shapeHead, columnList}
 use Rattle.settings.specs.Ranges.{settingsRight}
-use Rattle.controller.specs.State.{State, stopped}
+use Rattle.controller.specs.State.{State, stopped, dataRoom, replyRoom}
 use Rattle.controller.specs.Commands.{readGains, readPoints, readShape, readSmooth, blockBack, dataBack, runsPast}
 use Rattle.controller.specs.Step.{reads, numberOf, answers, replyData, replyTo, step}
 use Rattle.controller.specs.Demands.{Asks, Replied}
@@ -38,30 +38,30 @@ use Rattle.controller.proofs.Changes.{passed}
 part-small : (n : ℕ) (l : List ℕ) (most : ℕ) → n ≤ most → length (take n l) ≤ most
 part-small n l most h = rw length-take (omega arith)
 
-gains-small : (d gains : List ℕ) → wordAt d 3 ≤ 254 → length (readGains d gains) ≤ 508
+gains-small : (d gains : List ℕ) → wordAt d 3 ≤ 254 → length (readGains d gains) ≤ dataRoom
 unfolding readGains
 gains-small d gains h = rw (length-halves, length-take) (omega arith)
 
-points-small : (d staged : List ℕ) → wordAt d 2 ≤ 127 → length (readPoints d staged) ≤ 508
+points-small : (d staged : List ℕ) → wordAt d 2 ≤ 127 → length (readPoints d staged) ≤ dataRoom
 unfolding readPoints
 points-small d staged h = rw (length-halves, length-take) (omega arith)
 
-shape-small : (block : List ℕ) → length (readShape block) ≤ 508
+shape-small : (block : List ℕ) → length (readShape block) ≤ dataRoom
 unfolding readShape
 shape-small block =
     elim (ℕ-discrete (modeAt block stagedShape) 1) [
-      | yes e ↦ rw (eq-eqb (modeAt block stagedShape) 1 e) (omega (arith, part-small 188 (drop 13 block) 188 (omega arith)))
-      | no e ↦ rw (ne-eqb (modeAt block stagedShape) 1 e) (part-small 5 (drop 8 block) 508 (omega arith))
+      | yes e ↦ rw (eq-eqb (modeAt block stagedShape) 1 e) (omega (arith, part-small listsSize (drop (columnList stagedShape) block) listsSize (omega arith)))
+      | no e ↦ rw (ne-eqb (modeAt block stagedShape) 1 e) (part-small shapeHead (drop stagedShape block) dataRoom (omega arith))
     ]
 
-smooth-small : (block : List ℕ) → settingsRight block ≡ true → length (readSmooth block) ≤ 508
+smooth-small : (block : List ℕ) → settingsRight block ≡ true → length (readSmooth block) ≤ dataRoom
 unfolding readSmooth
 smooth-small block right =
-    part-small (2 + 4 * (byteAt block smoothTable * byteAt block (smoothTable + 1))) (drop smoothTable block) 508
+    part-small (2 + 4 * (byteAt block smoothTable * byteAt block (smoothTable + 1))) (drop smoothTable block) dataRoom
     (omega (arith, counts block right .smooth-points))
 
 pub back-fits : (op o : ℕ) (d : List ℕ) (s : State) → isRead o ≡ 1 → first (judgement op o d) ≡ 0 → runsPast op (eqb (isRead o) 1) d (s .block) ≡ false
-    → settingsRight (s .block) ≡ true → length (dataBack op d s) ≤ 508
+    → settingsRight (s .block) ≡ true → length (dataBack op d s) ≤ dataRoom
 unfolding dataBack blockBack
 back-fits op o d s h e past right =
     elim (ℕ-discrete op 0x2B) [
@@ -77,7 +77,7 @@ back-fits op o d s h e past right =
                         | yes t ↦ rw t (smooth-small (s .block) right)
                         | no t ↦
                             rw (ne-eqb op 0x2B g, ne-eqb op 0x34 m, ne-eqb op 0x35 c, ne-eqb op 0x38 t)
-                            (part-small (commandOf op .back) (drop (placeOf op d) (s .block)) 508 (omega (arith, back-small op)))
+                            (part-small (commandOf op .back) (drop (placeOf op d) (s .block)) dataRoom (omega (arith, back-small op)))
                       ]
                 ]
           ]
@@ -85,7 +85,7 @@ back-fits op o d s h e past right =
 
 -- ---- The reply.
 
-fits : {n : ℕ} (sum : Bool) → n ≤ 508 → n + 3 + sumSize sum ≤ 512
+fits : {n : ℕ} (sum : Bool) → n ≤ dataRoom → n + 3 + sumSize sum ≤ replyRoom
 fits true h = omega arith
 fits false h = omega arith
 
@@ -98,7 +98,7 @@ module _ (p : List ℕ) (s : State) (reply : List ℕ) where
       go true e = rw e (omega arith)
       go false e = rw e (placed-number p (s .block) .small)
 
-  data-small : length (replyData (numberOf p s reply) p s) ≤ 508
+  data-small : length (replyData (numberOf p s reply) p s) ≤ dataRoom
   data-small =
       elim (ℕ-discrete (numberOf p s reply) 0) [
         | no e ↦ rw (ne-eqb (numberOf p s reply) 0 e) (omega arith)
@@ -164,10 +164,10 @@ replied p s reply = go (answers n p) refl
         }
 
 -- No reply is longer than 512 bytes.
-pub size-small : (p : List ℕ) (s : State) (reply : List ℕ) → step p s reply .size ≤ 512
+pub size-small : (p : List ℕ) (s : State) (reply : List ℕ) → step p s reply .size ≤ replyRoom
 unfolding step replyTo
 size-small p s reply = go (answers (numberOf p s reply) p) refl
   where
-    go : (b : Bool) → answers (numberOf p s reply) p ≡ b → step p s reply .size ≤ 512
+    go : (b : Bool) → answers (numberOf p s reply) p ≡ b → step p s reply .size ≤ replyRoom
     go false e = rw e (omega arith)
     go true e = rw (e, length-reply) (fits (eqb (hasSum (headerOf p)) 1) (data-small p s reply))

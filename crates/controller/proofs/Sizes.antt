@@ -19,10 +19,11 @@ use Rattle.opcode.specs.Allowed.{WriteData}
 use Rattle.opcode.proofs.Accepts.{accepts}
 use Rattle.wire.proofs.Tests.{first-silent}
 use Rattle.opcode.proofs.Accepts.Commands.{_&_, of-carried, of-all}
+use Rattle.settings.specs.Layout.{settingsEnd, listsSize, shapeHead}
 use Rattle.settings.specs.Layout.{placeOf, placeIn, places}
 use Rattle.settings.proofs.Fits.{place-fits, write-long}
 
-pub shape-size : {d : List ℕ} → WriteData 0x35 d → length d ≡ cond (eqb (byteAt d 0) 1) 189 5
+pub shape-size : {d : List ℕ} → WriteData 0x35 d → length d ≡ cond (eqb (byteAt d 0) 1) (1 + listsSize) shapeHead
 shape-size (WriteData.shape h i j k) = refl
 shape-size (WriteData.lists xs ys ex ey rx ry) = rw length-append (omega arith)
 
@@ -62,7 +63,7 @@ module _ (op o : ℕ) (d : List ℕ) (e : first (judgement op o d) ≡ 0) where
 
 module _ (op o : ℕ) (d : List ℕ) (b : (k : ℕ) → getD d k 0 < 256) (e : first (judgement op o d) ≡ 0) where
   -- What a command's place and size name lies among the settings.
-  pub place-within : placeOf op d + commandOf op .back ≤ 865
+  pub place-within : placeOf op d + commandOf op .back ≤ settingsEnd
   unfolding placeOf
   place-within =
       elim (ℕ-discrete (commandOf op .mark) fixed) [

@@ -9,13 +9,11 @@ use lib.ListN.{length}
 use lib.Dec.{eqb}
 use Rattle.wire.specs.First.{first}
 use Rattle.wire.specs.Buffers.{over}
-use Rattle.opcode.specs.Options.{hasSum}
 use Rattle.packet.specs.Frame.{headerOf, opcodeOf, dataOf}
 use Rattle.packet.specs.Reading.{answered}
-use Rattle.reply.specs.Reply.{replyBytes}
 use Rattle.controller.specs.State.{State, stopped}
-use Rattle.controller.specs.Commands.{written, dataBack}
-use Rattle.controller.specs.Step.{reads, readAndPlaced, decision, numberOf, answers, replyTo, emptyReply, outOf, step}
+use Rattle.controller.specs.Commands.{written}
+use Rattle.controller.specs.Step.{reads, readAndPlaced, decision, numberOf, answers, replyTo, emptyReply, readReply, outOf, step}
 
 -- The number that a decision gives is the first of its refusals.
 pub decision-number : (p block : List ℕ) → decision p block .number ≡ first (readAndPlaced p block)
@@ -54,9 +52,9 @@ module _ (p : List ℕ) (s : State) (reply : List ℕ) where
         → step p s reply
         ≡ record {
           status = 0;
-          size = length (replyBytes (eqb (hasSum (headerOf p)) 1) 0 (dataBack (opcodeOf p) (dataOf p) s));
+          size = length (readReply (opcodeOf p) (headerOf p) (dataOf p) s);
           state = s;
-          reply = over (replyBytes (eqb (hasSum (headerOf p)) 1) 0 (dataBack (opcodeOf p) (dataOf p) s)) reply;
+          reply = over (readReply (opcodeOf p) (headerOf p) (dataOf p) s) reply;
         }
     unfolding replyTo
     step-read e r = step-by 0 (number 0 e) ∙ rw (read-answers p r, r)

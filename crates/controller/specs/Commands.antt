@@ -1,6 +1,6 @@
 -- Rules 5.1 to 5.8: what each command does to a state, and what it returns, from its data; each a function of its own part of it.
 use Prim.Native.Nat.{ℕ, _+_, _-_, _*_}
-use mathlib.Core.Bool.{Bool, false, cond}
+use mathlib.Core.Bool.{Bool, true, false, cond}
 use mathlib.Core.List.{List, [], _∷_, _++_}
 use lib.ListN.{length, take, drop}
 use lib.Seq.{paste}
@@ -8,8 +8,25 @@ use lib.Dec.{eqb, ltb}
 use Rattle.wire.specs.Numbers.{byteAt, wordAt, wordBytes}
 use Rattle.wire.specs.Tables.{words, bytes}
 use Rattle.packet.specs.Points.{writePoints, startOf, pointsOf, countOf}
-use Rattle.settings.specs.Layout.{stored, returned, stagedShape, enable, liveShape, smoothTable, shapeSize, modeAt, columnsAt, rowsAt}
+use Rattle.settings.specs.Layout.{stagedShape, shapeSize, shapeHead, enable, liveShape, smoothTable, stored, returned}
+use Rattle.settings.specs.Layout.{modeAt, columnsAt, rowsAt, columnList, columnEntries, rowEntries, listsSize}
 use Rattle.controller.specs.State.{State}
+
+-- ---- Start and count, of a read's data or a write's.
+
+-- Rule 5.4: a read of 34h sends its count, a write has the points behind its start.
+abbrev pub pointCount : Bool → List ℕ → ℕ
+pointCount reads d = cond reads (wordAt d 2) (countOf d)
+
+-- Rule 5.8: a read of 2Bh sends colour, start and count; a write's data is compression, colour, count, start, words.
+abbrev pub gainsColour : Bool → List ℕ → ℕ
+gainsColour reads d = cond reads (byteAt d 0) (byteAt d 1)
+
+abbrev pub gainsStart : Bool → List ℕ → ℕ
+gainsStart reads d = cond reads (wordAt d 1) (wordAt d 4)
+
+abbrev pub gainsCount : Bool → List ℕ → ℕ
+gainsCount reads d = cond reads (wordAt d 3) (wordAt d 2)
 
 -- ---- 2Bh gains, rule 5.8: colour 1 red, 2 green, 3 blue, a third of the table each.
 
@@ -17,12 +34,16 @@ use Rattle.controller.specs.State.{State}
 abbrev pub third : ℕ
 third = 2016
 
--- Rule 5.8, of a write's data: compression, colour, count, start, words.
+-- Rule 5.8: the words of a write.
 abbrev pub gainsWords : List ℕ → List ℕ
 gainsWords d = words (drop 6 d)
 
+-- Rule 5.8: where a colour's gains from a start on stand; of colour 0, the first of its three places.
 abbrev pub colourPlace : ℕ → ℕ → ℕ
 colourPlace colour start = third * (colour - 1) + start
+
+abbrev pub gainsPlace : Bool → List ℕ → ℕ
+gainsPlace reads d = colourPlace (gainsColour reads d) (gainsStart reads d)
 
 abbrev pub gainsInto : List ℕ → ℕ → List ℕ → List ℕ
 gainsInto gains place ws = paste gains place ws (length ws)
@@ -30,28 +51,28 @@ gainsInto gains place ws = paste gains place ws (length ws)
 -- Rule 5.8: colour 0 writes the same words into all three thirds.
 unfoldable pub writeGains : List ℕ → List ℕ → List ℕ
 writeGains d gains =
-    cond (eqb (byteAt d 1) 0)
+    cond (eqb (gainsColour false d) 0)
     (gainsInto
-    (gainsInto (gainsInto gains (wordAt d 4) (gainsWords d)) (third + wordAt d 4) (gainsWords d))
-    (2 * third + wordAt d 4)
+    (gainsInto (gainsInto gains (gainsStart false d) (gainsWords d)) (third + gainsStart false d) (gainsWords d))
+    (2 * third + gainsStart false d)
     (gainsWords d))
-    (gainsInto gains (colourPlace (byteAt d 1) (wordAt d 4)) (gainsWords d))
+    (gainsInto gains (gainsPlace false d) (gainsWords d))
 
--- Rule 5.8: a read has colour, start and count, and returns so many words.
+-- Rule 5.8: a read returns so many words.
 unfoldable pub readGains : List ℕ → List ℕ → List ℕ
-readGains d gains = bytes (take (wordAt d 3) (drop (colourPlace (byteAt d 0) (wordAt d 1)) gains))
+readGains d gains = bytes (take (gainsCount true d) (drop (gainsPlace true d) gains))
 
--- ---- 34h map, rule 5.4: a read has start and count, and returns so many staged points.
+-- ---- 34h map, rule 5.4: a read returns so many staged points.
 
 -- Rule 5.4.
 unfoldable pub readPoints : List ℕ → List ℕ → List ℕ
-readPoints d staged = bytes (take (2 * wordAt d 2) (drop (2 * wordAt d 0) staged))
+readPoints d staged = bytes (take (2 * pointCount true d) (drop (2 * startOf d) staged))
 
 -- ---- 35h control points, rule 5.5
 
 -- Rule 5.5: in mode 0 the stored lists stay; mode 1 carries both, and its shape is always 62 × 32.
 unfoldable pub shapeBytes : List ℕ → List ℕ
-shapeBytes d = cond (eqb (byteAt d 0) 1) ((1 ∷ []) ++ wordBytes 62 ++ wordBytes 32 ++ drop 1 d) d
+shapeBytes d = cond (eqb (byteAt d 0) 1) ((1 ∷ []) ++ wordBytes columnEntries ++ wordBytes rowEntries ++ drop 1 d) d
 
 -- Rule 5.5.
 unfoldable pub writeShape : List ℕ → List ℕ → List ℕ
@@ -61,8 +82,8 @@ writeShape d block = paste block stagedShape (shapeBytes d) (length (shapeBytes 
 unfoldable pub readShape : List ℕ → List ℕ
 readShape block =
     cond (eqb (modeAt block stagedShape) 1)
-    (byteAt block stagedShape ∷ take 188 (drop (stagedShape + 5) block))
-    (take 5 (drop stagedShape block))
+    (byteAt block stagedShape ∷ take listsSize (drop (columnList stagedShape) block))
+    (take shapeHead (drop stagedShape block))
 
 -- ---- 36h apply, rule 5.6: 1 copies shape, mode, lists and points from the staged side to the live one and sets enable; 0 clears
 -- enable alone.
@@ -98,14 +119,23 @@ blockAfter op d block =
     (cond (eqb op 0x35) (writeShape d block)
     (cond (eqb op 0x36) (applyBlock d block) (cond (eqb op 0x38) (writeSmooth d block) (stored op d block)))))
 
+abbrev pub stagedAfter : ℕ → List ℕ → List ℕ → List ℕ
+stagedAfter op d staged = cond (eqb op 0x34) (writePoints (startOf d) (pointsOf d) staged) staged
+
+abbrev pub liveAfter : ℕ → List ℕ → List ℕ → List ℕ → List ℕ
+liveAfter op d staged live = cond (eqb op 0x36) (applyLive d staged live) live
+
+abbrev pub gainsAfter : ℕ → List ℕ → List ℕ → List ℕ
+gainsAfter op d gains = cond (eqb op 0x2B) (writeGains d gains) gains
+
 -- The state after an accepted write. Of 35h only the block changes, so that staged points keep their index (rule 5.5).
 unfoldable pub written : ℕ → List ℕ → State → State
 written op d s =
     record {
       block = blockAfter op d (s .block);
-      staged = cond (eqb op 0x34) (writePoints (startOf d) (pointsOf d) (s .staged)) (s .staged);
-      live = cond (eqb op 0x36) (applyLive d (s .staged) (s .live)) (s .live);
-      gains = cond (eqb op 0x2B) (writeGains d (s .gains)) (s .gains);
+      staged = stagedAfter op d (s .staged);
+      live = liveAfter op d (s .staged) (s .live);
+      gains = gainsAfter op d (s .gains);
     }
 
 -- The data of an accepted read's reply: settings of the block. 36h returns enable (rule 5.6), as the fixed commands return what
@@ -127,5 +157,5 @@ points block = columnsAt block stagedShape * rowsAt block stagedShape
 -- Rule 4.3.
 unfoldable pub runsPast : ℕ → Bool → List ℕ → List ℕ → Bool
 runsPast op reads d block =
-    cond (eqb op 0x34) (ltb (points block) (startOf d + cond reads (wordAt d 2) (countOf d)))
-    (cond (eqb op 0x2B) (ltb third (cond reads (wordAt d 1 + wordAt d 3) (wordAt d 4 + wordAt d 2))) false)
+    cond (eqb op 0x34) (ltb (points block) (startOf d + pointCount reads d))
+    (cond (eqb op 0x2B) (ltb third (gainsStart reads d + gainsCount reads d)) false)

@@ -22,9 +22,9 @@ use Rattle.reply.specs.Reading.{replyReading}
 use Rattle.settings.specs.Allowed.{SettingsAllowed}
 use Rattle.settings.specs.AfterReset.{byteAfterReset}
 use Rattle.controller.specs.State.{State, state, ResetOut, resetOut, reset}
-use Rattle.controller.specs.Commands.{written, dataBack}
+use Rattle.controller.specs.Commands.{written}
 use Rattle.controller.specs.Effects.{Leaves, Returns}
-use Rattle.controller.specs.Step.{stepRefusals, emptyReply, replyData, Out, out, step}
+use Rattle.controller.specs.Step.{stepRefusals, emptyReply, readReply, replyData, Out, out, step}
 
 -- ---- What is lent.
 
@@ -104,8 +104,7 @@ pub record Demand2 (p : List ℕ) (s : State) (reply : List ℕ) (o : Out) : Typ
       → o ≡ out 0 (length (emptyReply 0 p)) (written (opcodeOf p) (dataOf p) s) (over (emptyReply 0 p) reply)
   pub reads : Accepted p s reply → isRead (headerOf p) ≡ 1
       → o
-      ≡ out 0 (length (replyBytes (eqb (hasSum (headerOf p)) 1) 0 (dataBack (opcodeOf p) (dataOf p) s))) s
-      (over (replyBytes (eqb (hasSum (headerOf p)) 1) 0 (dataBack (opcodeOf p) (dataOf p) s)) reply)
+      ≡ out 0 (length (readReply (opcodeOf p) (headerOf p) (dataOf p) s)) s (over (readReply (opcodeOf p) (headerOf p) (dataOf p) s) reply)
   pub leaves : Accepted p s reply → isRead (headerOf p) ≡ 0 → Left p s reply o
   pub returns : Accepted p s reply → isRead (headerOf p) ≡ 1 → Returned p s reply o
 

@@ -1,8 +1,8 @@
--- What only private functions of the front end need, and no rule: what is known of a command once it has been accepted, its data judged right,
+-- What only functions inside the library need, and no rule: what a command names of a table, and what is known of a command once it has been accepted, its data judged right,
 -- its start and count fitting, and the block in range.
-use Prim.Native.Nat.{ℕ, _+_, _*_, _≤_}
+use Prim.Native.Nat.{ℕ, _+_, _*_, _^_, _≤_, _<_}
 use mathlib.Core.Path.{_≡_}
-use mathlib.Core.Bool.{true, false}
+use mathlib.Core.Bool.{Bool, true, false}
 use mathlib.Core.List.{List}
 use lib.ListN.{length}
 use lib.Dec.{eqb}
@@ -13,7 +13,26 @@ use Rattle.opcode.specs.Judgement.{judgement}
 use Rattle.packet.specs.Points.{startOf, pointsOf, countOf}
 use Rattle.settings.specs.Layout.{blockSize}
 use Rattle.settings.specs.Ranges.{settingsRight}
-use Rattle.controller.specs.Commands.{runsPast, gainsWords}
+use Rattle.settings.specs.Reset.{mapSize, gainsSize}
+use Rattle.controller.specs.declared.Points.{Points}
+use Rattle.controller.specs.declared.Gains.{Gains}
+use Rattle.controller.specs.Commands.{pointCount, gainsColour, gainsStart, gainsCount, gainsPlace, runsPast, third, gainsWords}
+
+-- What a 34h command names, of a read's data or a write's; no sum of it can wrap.
+pub record PointsNamed (reads : Bool) (d : List ℕ) (r : Points) : Type 0 where
+  pub start : r .start ≡ startOf d
+  pub count : r .count ≡ pointCount reads d
+  pub start-small : r .start < 65536
+  pub count-small : r .count < 2 ^ 63
+
+-- What a 2Bh command names.
+pub record GainsNamed (reads : Bool) (d : List ℕ) (r : Gains) : Type 0 where
+  pub colour : r .colour ≡ gainsColour reads d
+  pub start : r .start ≡ gainsStart reads d
+  pub count : r .count ≡ gainsCount reads d
+  pub place : r .place ≡ gainsPlace reads d
+  pub start-small : r .start < 65536
+  pub count-small : r .count < 65536
 
 pub record Granted (op o : ℕ) (d block : List ℕ) : Type 0 where
   pub judged : first (judgement op o d) ≡ 0
@@ -25,11 +44,38 @@ pub record Granted (op o : ℕ) (d block : List ℕ) : Type 0 where
 pub record PointsWrite (d : List ℕ) : Type 0 where
   pub sized : length d ≡ 2 + 4 * countOf d
   pub numbers : length (pointsOf d) ≡ 2 * countOf d
-  pub ends : 2 * startOf d + 2 * countOf d ≤ 3968
+  pub ends : 2 * startOf d + 2 * countOf d ≤ mapSize
+
+-- An accepted 34h read: its points lie within a map, and fit a reply.
+pub record PointsRead (d : List ℕ) : Type 0 where
+  pub sized : length d ≡ 4
+  pub few : wordAt d 2 ≤ 127
+  pub ends : 2 * wordAt d 0 + 2 * wordAt d 2 ≤ mapSize
 
 -- An accepted 2Bh write: its gains lie within a colour's third.
 pub record GainsWrite (d : List ℕ) : Type 0 where
   pub sized : length d ≡ 6 + 2 * wordAt d 2
   pub numbers : length (gainsWords d) ≡ wordAt d 2
   pub colour : byteAt d 1 ≤ 3
-  pub ends : wordAt d 4 + wordAt d 2 ≤ 2016
+  pub ends : wordAt d 4 + wordAt d 2 ≤ third
+
+-- An accepted 2Bh read: its gains lie within a colour's third, and fit a reply.
+pub record GainsRead (d : List ℕ) : Type 0 where
+  pub sized : length d ≡ 5
+  pub colour : (1 ≤ byteAt d 0) × (byteAt d 0 ≤ 3)
+  pub few : wordAt d 3 ≤ 254
+  pub ends : wordAt d 1 + wordAt d 3 ≤ third
+
+-- An accepted read or write on tables of the right length, of so many elements a number: one where numbers are lent, two where bytes are.
+pub record ReadGranted (wide op o : ℕ) (d block staged gains : List ℕ) : Type 0 where
+  pub granted : Granted op o d block
+  pub reads : isRead o ≡ 1
+  pub staged-long : length staged ≡ wide * mapSize
+  pub gains-long : length gains ≡ wide * gainsSize
+
+pub record WriteGranted (wide op o : ℕ) (d block staged live gains : List ℕ) : Type 0 where
+  pub granted : Granted op o d block
+  pub writes : isRead o ≡ 0
+  pub staged-long : length staged ≡ wide * mapSize
+  pub live-long : length live ≡ wide * mapSize
+  pub gains-long : length gains ≡ wide * gainsSize

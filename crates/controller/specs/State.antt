@@ -8,6 +8,13 @@ use Rattle.settings.specs.Layout.{blockSize}
 use Rattle.settings.specs.Ranges.{settingsRight}
 use Rattle.settings.specs.Reset.{mapSize, gainsSize, resetBlock, resetMap, resetGains}
 
+-- Rule 1.3: the reply buffer has at least so many bytes. A reply's data has room behind the head of three, with one left for the checksum.
+abbrev pub replyRoom : ℕ
+replyRoom = 512
+
+abbrev pub dataRoom : ℕ
+dataRoom = 508
+
 -- Block bytes, and tables of 16-bit numbers.
 pub record State : Type 0 where
   pub block : List ℕ
@@ -29,7 +36,7 @@ lengthsRight s =
 -- Rule 4.1, 1: a length is wrong, the reply buffer is under 512 bytes, or a setting is out of range. What tables hold is not judged
 -- (rule 1.4).
 unfoldable pub stopped : State → List ℕ → Bool
-stopped s reply = not (lengthsRight s && leb 512 (length reply)) || not (settingsRight (s .block))
+stopped s reply = not (lengthsRight s && leb replyRoom (length reply)) || not (settingsRight (s .block))
 
 -- Rule 5.10: what reset leaves.
 abbrev pub resetState : State

@@ -44,6 +44,10 @@ replyData number p s = cond (eqb number 0 && reads p) (dataBack (opcodeOf p) (da
 unfoldable pub emptyReply : ℕ → List ℕ → List ℕ
 emptyReply number p = cond (answers number p) (replyBytes (eqb (hasSum (headerOf p)) 1) number []) []
 
+-- Rule 3.3: the reply of an accepted read, from its opcode, its options or header, and its data.
+abbrev pub readReply : ℕ → ℕ → List ℕ → State → List ℕ
+readReply op o d s = replyBytes (eqb (hasSum o) 1) 0 (dataBack op d s)
+
 -- Rule 3.1: the reply's bytes, none where none is written.
 unfoldable pub replyTo : ℕ → List ℕ → State → List ℕ
 replyTo number p s =

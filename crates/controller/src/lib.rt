@@ -1,6 +1,7 @@
 // The front end's part that needs no table: the decision on a packet, the settings of the block, and replies without data. Both families of
 // entries, on 16-bit tables and on tables lent as bytes, stand on it.
 use packet::Reading;
+use settings::layout::*;
 use wire::Refusal;
 ghost use mathlib.Core.Path.{_≡_};
 ghost use mathlib.Core.Bool.{cond, true};
@@ -8,16 +9,29 @@ ghost use Prim.Native.Nat.{_+_, _^_, _<_, _≤_};
 ghost use lib.ListN.{length, take, drop};
 ghost use lib.Seq.{paste};
 ghost use lib.Dec.{eqb};
-ghost use Rattle.wire.specs.Buffers.{over};
+ghost use Rattle.wire.specs.Buffers.{Overwrites};
 ghost use Rattle.wire.specs.First.{first};
-ghost use Rattle.wire.specs.Numbers.{byteAt, wordAt};
+ghost use Rattle.wire.specs.Numbers.{byteAt};
 ghost use Rattle.opcode.specs.Options.{isRead};
 ghost use Rattle.opcode.specs.Judgement.{judgement};
-ghost use Rattle.packet.specs.Points.{countOf};
 ghost use Rattle.packet.specs.Reading.{answer};
+ghost use Rattle.settings.specs.Layout.{blockSize, shapeHead, listsSize};
 ghost use Rattle.settings.specs.Ranges.{settingsRight};
-ghost use Rattle.controller.specs.Commands.{runsPast, blockAfter, blockBack, writeShape, applyBlock, readShape};
+ghost use Rattle.controller.specs.State.{replyRoom, dataRoom};
+ghost use Rattle.controller.specs.Commands.{pointCount, colourPlace, runsPast};
+ghost use Rattle.controller.specs.Commands.{blockAfter, blockBack, writeShape, applyBlock, readShape};
+ghost use Rattle.controller.specs.Internal.{PointsNamed, GainsNamed};
 ghost use Rattle.controller.specs.Step.{decision, emptyReply};
+
+// How many numbers a map has, the gain table, and in it one colour.
+pub const MAP_SIZE: usize = 3968;
+
+pub const GAINS_SIZE: usize = 6048;
+
+pub const COLOUR_GAINS: usize = 2016;
+
+// The fewest bytes of a reply buffer.
+pub const REPLY_ROOM: usize = 512;
 
 // What is to be done with a packet, by its bytes and the settings alone: the command, or refusal 2 to 12.
 pub fn decide(packet: &[u8], block: &[u8]) -> Reading
@@ -49,18 +63,35 @@ fn runs_past(opcode: usize, reads: bool, data: &[u8], block: &[u8]) -> bool
     ensures { λ r. ⌜ r ≡ runsPast opcode reads (now («data» .entry)) (now (block .entry)) ⌝ }
 {
     if opcode == 0x34 {
-        let points = wire::word(block, 9) * wire::word(block, 11);
-        return points < wire::word(data, 0) + point_count(reads, data);
+        let named = points_named(reads, data);
+        let points = wire::word(block, STAGED_COLUMNS) * wire::word(block, STAGED_ROWS);
+        return points < named.start + named.count;
     }
     if opcode == 0x2B {
-        return 2016 < gains_end(reads, data);
+        let named = gains_named(reads, data);
+        return COLOUR_GAINS < named.start + named.count;
     }
     false
 }
 
-// How many points a 34h command names.
+// The points that a 34h command names: so many, from a start on.
+pub struct Points {
+    pub start: usize,
+    pub count: usize,
+}
+
+pub fn points_named(reads: bool, data: &[u8]) -> Points
+    ensures { λ r. ⌜ PointsNamed reads (now («data» .entry)) r ⌝ }
+{
+    Points {
+        start: wire::word(data, 0),
+        count: point_count(reads, data),
+    }
+}
+
+// A read sends its count; a write has the points behind its start.
 fn point_count(reads: bool, data: &[u8]) -> usize
-    ensures { λ r. ⌜ (r ≡ cond reads (wordAt (now («data» .entry)) 2) (countOf (now («data» .entry)))) × (r < 2 ^ 63) ⌝ }
+    ensures { λ r. ⌜ (r ≡ pointCount reads (now («data» .entry))) × (r < 2 ^ 63) ⌝ }
 {
     if reads {
         return wire::word(data, 2);
@@ -71,22 +102,56 @@ fn point_count(reads: bool, data: &[u8]) -> usize
     (data.len() - 2) / 4
 }
 
-// The place behind the last gain that a 2Bh command names.
-fn gains_end(reads: bool, data: &[u8]) -> usize
-    ensures { λ r. ⌜ r ≡ cond reads (wordAt (now («data» .entry)) 1 + wordAt (now («data» .entry)) 3)
-        (wordAt (now («data» .entry)) 4 + wordAt (now («data» .entry)) 2) ⌝ }
+// The gains that a 2Bh command names: so many of a colour, from a start on; and where these stand in the table, for colour 0 in the
+// first of its three places.
+pub struct Gains {
+    pub colour: usize,
+    pub start: usize,
+    pub count: usize,
+    pub place: usize,
+}
+
+pub fn gains_named(reads: bool, data: &[u8]) -> Gains
+    ensures { λ r. ⌜ GainsNamed reads (now («data» .entry)) r ⌝ }
 {
     if reads {
-        return wire::word(data, 1) + wire::word(data, 3);
+        return gains_at(
+            wire::byte(data, 0),
+            wire::word(data, 1),
+            wire::word(data, 3),
+        );
     }
-    wire::word(data, 4) + wire::word(data, 2)
+    gains_at(
+        wire::byte(data, 1),
+        wire::word(data, 4),
+        wire::word(data, 2),
+    )
+}
+
+fn gains_at(colour: usize, start: usize, count: usize) -> Gains
+    requires { ⌜ (colour < 256) × (start < 65536) ⌝ }
+    ensures { λ r. ⌜ (r .colour ≡ colour) × (r .start ≡ start) × (r .count ≡ count) × (r .place ≡ colourPlace colour start) ⌝ }
+{
+    if colour == 0 {
+        return Gains {
+            colour,
+            start,
+            count,
+            place: start,
+        };
+    }
+    Gains {
+        colour,
+        start,
+        count,
+        place: COLOUR_GAINS * (colour - 1) + start,
+    }
 }
 
 // Writes the reply that carries a status and no data, if the packet asks for one. Answers its length, 0 for none.
 pub fn acknowledge(packet: &[u8], number: usize, reply: &mut [u8]) -> usize
-    requires { ⌜ (number < 256) × (512 ≤ length (now reply)) ⌝ }
-    ensures { λ r. ⌜ (r ≡ length (emptyReply number (now (packet .entry))))
-        × (now (reply .exit) ≡ over (emptyReply number (now (packet .entry))) (now (reply .entry))) ⌝ }
+    requires { ⌜ (number < 256) × (replyRoom ≤ length (now reply)) ⌝ }
+    ensures { λ r. ⌜ Overwrites r (emptyReply number (now (packet .entry))) (now (reply .entry)) (now (reply .exit)) ⌝ }
 {
     if packet.len() == 0 {
         return 0;
@@ -109,11 +174,11 @@ pub struct Outcome {
 
 // The answer to a packet that a decision refuses.
 pub fn refuse(decision: Reading, packet: &[u8], reply: &mut [u8]) -> Outcome
-    requires { ⌜ 512 ≤ length (now reply) ⌝ }
-    ensures { λ r. ⌜ (r .status ≡ answer decision .number) × (r .size ≡ length (emptyReply (answer decision .number) (now (packet .entry))))
-        × (now (reply .exit) ≡ over (emptyReply (answer decision .number) (now (packet .entry))) (now (reply .entry))) ⌝ }
+    requires { ⌜ replyRoom ≤ length (now reply) ⌝ }
+    ensures { λ r. ⌜ (r .status ≡ answer decision .number)
+        × Overwrites (r .size) (emptyReply (answer decision .number) (now (packet .entry))) (now (reply .entry)) (now (reply .exit)) ⌝ }
 {
-    let number = number_of(decision);
+    let number = decision.refusal().number;
     let size = acknowledge(packet, number as usize, reply);
     Outcome {
         status: number,
@@ -121,23 +186,9 @@ pub fn refuse(decision: Reading, packet: &[u8], reply: &mut [u8]) -> Outcome
     }
 }
 
-fn number_of(decision: Reading) -> u8
-    ensures { λ n. ⌜ n ≡ answer decision .number ⌝ }
-{
-    match decision {
-        Reading::Refused(why) => why.number,
-        Reading::Command {
-            opcode: _,
-            options: _,
-            at: _,
-            size: _,
-        } => 0,
-    }
-}
-
 // The block after an accepted write: of 2Bh and 34h, which store in tables, it is as it was.
 pub fn store(block: &mut [u8], opcode: usize, options: usize, data: &[u8])
-    requires { ⌜ (length (now block) ≡ 1024) × (isRead options ≡ 0) × (first (judgement opcode options (now «data»)) ≡ 0) ⌝ }
+    requires { ⌜ (length (now block) ≡ blockSize) × (isRead options ≡ 0) × (first (judgement opcode options (now «data»)) ≡ 0) ⌝ }
     ensures { λ _. ⌜ now (block .exit) ≡ blockAfter opcode (now («data» .entry)) (now (block .entry)) ⌝ }
 {
     match opcode {
@@ -145,7 +196,7 @@ pub fn store(block: &mut [u8], opcode: usize, options: usize, data: &[u8])
         0x34 => {}
         0x35 => store_shape(block, data),
         0x36 => store_apply(block, data),
-        0x38 => wire::copy(block, 395, data, 0, data.len()),
+        0x38 => wire::copy(block, SMOOTH_TABLE, data, 0, data.len()),
         _ => {
             let row = opcode::row_at(opcode);
             wire::copy(
@@ -161,30 +212,30 @@ pub fn store(block: &mut [u8], opcode: usize, options: usize, data: &[u8])
 
 // 35h: mode 0 sets mode, columns and rows; mode 1 the lists too, and the shape that goes with them.
 fn store_shape(block: &mut [u8], data: &[u8])
-    requires { ⌜ (length (now block) ≡ 1024) × (length (now «data») ≡ cond (eqb (byteAt (now «data») 0) 1) 189 5) ⌝ }
+    requires { ⌜ (length (now block) ≡ blockSize) × (length (now «data») ≡ cond (eqb (byteAt (now «data») 0) 1) (1 + listsSize) shapeHead) ⌝ }
     ensures { λ _. ⌜ now (block .exit) ≡ writeShape (now («data» .entry)) (now (block .entry)) ⌝ }
 {
     if wire::byte(data, 0) == 1 {
-        wire::put_byte(block, 8, 1);
-        wire::put_word(block, 9, 62);
-        wire::put_word(block, 11, 32);
-        wire::copy(block, 13, data, 1, 188);
+        wire::put_byte(block, STAGED_SHAPE, 1);
+        wire::put_word(block, STAGED_COLUMNS, COLUMN_ENTRIES);
+        wire::put_word(block, STAGED_ROWS, ROW_ENTRIES);
+        wire::copy(block, STAGED_LISTS, data, 1, LISTS_SIZE);
         return;
     }
-    wire::copy(block, 8, data, 0, 5);
+    wire::copy(block, STAGED_SHAPE, data, 0, SHAPE_HEAD);
 }
 
 // 36h: 1 sets enable and copies the staged shape over the live one; 0 clears enable.
 fn store_apply(block: &mut [u8], data: &[u8])
-    requires { ⌜ length (now block) ≡ 1024 ⌝ }
+    requires { ⌜ length (now block) ≡ blockSize ⌝ }
     ensures { λ _. ⌜ now (block .exit) ≡ applyBlock (now («data» .entry)) (now (block .entry)) ⌝ }
 {
     if wire::byte(data, 0) == 1 {
-        wire::put_byte(block, 201, 1);
-        copy_within(block, 202, 8, 193);
+        wire::put_byte(block, ENABLE, 1);
+        copy_within(block, LIVE_SHAPE, STAGED_SHAPE, SHAPE_SIZE);
         return;
     }
-    wire::put_byte(block, 201, 0);
+    wire::put_byte(block, ENABLE, 0);
 }
 
 // Copies n bytes from a place on over those from a place behind them on.
@@ -201,18 +252,17 @@ fn copy_within(block: &mut [u8], at: usize, from: usize, n: usize)
 
 // The data that a read of a setting returns, over the start of the buffer. Answers its size.
 pub fn fetch(out: &mut [u8], opcode: usize, options: usize, data: &[u8], block: &[u8]) -> usize
-    requires { ⌜ (508 ≤ length (now out)) × (length (now block) ≡ 1024) × (settingsRight (now block) ≡ true) × (isRead options ≡ 1)
+    requires { ⌜ (dataRoom ≤ length (now out)) × (length (now block) ≡ blockSize) × (settingsRight (now block) ≡ true) × (isRead options ≡ 1)
         × (first (judgement opcode options (now «data»)) ≡ 0) ⌝ }
-    ensures { λ r. ⌜ (r ≡ length (blockBack opcode (now («data» .entry)) (now (block .entry))))
-        × (now (out .exit) ≡ over (blockBack opcode (now («data» .entry)) (now (block .entry))) (now (out .entry))) ⌝ }
+    ensures { λ r. ⌜ Overwrites r (blockBack opcode (now («data» .entry)) (now (block .entry))) (now (out .entry)) (now (out .exit)) ⌝ }
 {
     match opcode {
         0x35 => fetch_shape(out, block),
         0x38 => fetch_part(
             out,
             block,
-            395,
-            2 + 4 * (wire::byte(block, 395) * wire::byte(block, 396)),
+            SMOOTH_TABLE,
+            2 + 4 * (wire::byte(block, SMOOTH_TABLE) * wire::byte(block, SMOOTH_ROWS)),
         ),
         _ => {
             let row = opcode::row_at(opcode);
@@ -223,23 +273,21 @@ pub fn fetch(out: &mut [u8], opcode: usize, options: usize, data: &[u8], block: 
 
 // 35h: in mode 0 mode, columns and rows; in mode 1 the mode and the lists.
 fn fetch_shape(out: &mut [u8], block: &[u8]) -> usize
-    requires { ⌜ (508 ≤ length (now out)) × (length (now block) ≡ 1024) ⌝ }
-    ensures { λ r. ⌜ (r ≡ length (readShape (now (block .entry))))
-        × (now (out .exit) ≡ over (readShape (now (block .entry))) (now (out .entry))) ⌝ }
+    requires { ⌜ (dataRoom ≤ length (now out)) × (length (now block) ≡ blockSize) ⌝ }
+    ensures { λ r. ⌜ Overwrites r (readShape (now (block .entry))) (now (out .entry)) (now (out .exit)) ⌝ }
 {
-    if wire::byte(block, 8) == 1 {
+    if wire::byte(block, STAGED_SHAPE) == 1 {
         wire::put_byte(out, 0, 1);
-        wire::copy(out, 1, block, 13, 188);
-        return 189;
+        wire::copy(out, 1, block, STAGED_LISTS, LISTS_SIZE);
+        return LISTED_DATA;
     }
-    fetch_part(out, block, 8, 5)
+    fetch_part(out, block, STAGED_SHAPE, SHAPE_HEAD)
 }
 
 // The n bytes of the block from a place on, over the start of the buffer.
 fn fetch_part(out: &mut [u8], block: &[u8], at: usize, n: usize) -> usize
     requires { ⌜ (n ≤ length (now out)) × (at + n ≤ length (now block)) ⌝ }
-    ensures { λ r. ⌜ (r ≡ length (take n (drop at (now (block .entry)))))
-        × (now (out .exit) ≡ over (take n (drop at (now (block .entry)))) (now (out .entry))) ⌝ }
+    ensures { λ r. ⌜ Overwrites r (take n (drop at (now (block .entry)))) (now (out .entry)) (now (out .exit)) ⌝ }
 {
     wire::copy(out, 0, block, at, n);
     n

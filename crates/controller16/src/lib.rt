@@ -1,21 +1,24 @@
 // The front end on tables of 16-bit numbers, for Rattle callers.
+use controller::COLOUR_GAINS;
+use controller::GAINS_SIZE;
+use controller::MAP_SIZE;
 use controller::Outcome;
+use controller::REPLY_ROOM;
 use packet::Reading;
+use settings::layout::BLOCK_SIZE;
 ghost use mathlib.Core.Path.{_≡_};
-ghost use mathlib.Core.Bool.{cond, false};
+ghost use mathlib.Core.Bool.{false};
 ghost use mathlib.Core.List.{[]};
 ghost use Prim.Native.Nat.{_≤_};
 ghost use lib.ListN.{length};
-ghost use lib.Dec.{eqb};
-ghost use Rattle.wire.specs.Buffers.{over};
-ghost use Rattle.opcode.specs.Options.{isRead, hasSum};
-ghost use Rattle.packet.specs.Points.{writePoints, startOf, pointsOf};
-ghost use Rattle.reply.specs.Reply.{replyBytes};
-ghost use Rattle.controller.specs.State.{state, resetOut, lengthsRight, «stopped» as stoppedBy};
-ghost use Rattle.controller.specs.Commands.{written, writeGains, applyLive, dataBack};
-ghost use Rattle.controller.specs.Step.{«out» as outcome, decision, step};
+ghost use Rattle.wire.specs.Buffers.{Overwrites};
+ghost use Rattle.packet.specs.Reading.{commandAt};
+ghost use Rattle.settings.specs.Reset.{mapSize, gainsSize};
+ghost use Rattle.controller.specs.State.{replyRoom, dataRoom, state, resetOut, lengthsRight, «stopped» as stoppedBy};
+ghost use Rattle.controller.specs.Commands.{stagedAfter, liveAfter, gainsAfter, written, readPoints, readGains, dataBack};
+ghost use Rattle.controller.specs.Step.{«out» as outcome, decision, readReply, step};
 ghost use Rattle.controller.specs.Demands.{Handled, Resets};
-ghost use Rattle.controller.specs.Internal.{Granted, PointsWrite, GainsWrite};
+ghost use Rattle.controller.specs.Internal.{PointsWrite, PointsRead, GainsWrite, GainsRead, ReadGranted, WriteGranted};
 
 // Puts the block and all tables as they are after reset. Answers 0, or 1 for a wrong length, when nothing is changed.
 pub fn reset(block: &mut [u8], staged: &mut [u16], live: &mut [u16], gains: &mut [u16]) -> u8
@@ -34,18 +37,19 @@ pub fn reset(block: &mut [u8], staged: &mut [u16], live: &mut [u16], gains: &mut
 
 // Whether each lent list has the length it must have.
 fn lengths_right(block: &[u8], staged: &[u16], live: &[u16], gains: &[u16]) -> bool
-    ensures { λ r. ⌜ r ≡ lengthsRight (state (now (block .entry)) (now (staged .entry)) (now (live .entry)) (now (gains .entry))) ⌝ }
+    ensures { λ r. ⌜ r
+        ≡ lengthsRight (state (now (block .entry)) (now (staged .entry)) (now (live .entry)) (now (gains .entry))) ⌝ }
 {
-    if block.len() != 1024 {
+    if block.len() != BLOCK_SIZE {
         return false;
     }
-    if staged.len() != 3968 {
+    if staged.len() != MAP_SIZE {
         return false;
     }
-    if live.len() != 3968 {
+    if live.len() != MAP_SIZE {
         return false;
     }
-    gains.len() == 6048
+    gains.len() == GAINS_SIZE
 }
 
 // One packet on a state: any bytes, any lent lengths.
@@ -78,8 +82,10 @@ fn decided(
     reply: &mut [u8],
 ) -> Outcome
     requires { ⌜ stoppedBy (state (now block) (now staged) (now live) (now gains)) (now reply) ≡ false ⌝ }
-    ensures { λ r. ⌜ outcome (r .status) (r .size) (state (now (block .exit)) (now (staged .exit)) (now (live .exit)) (now (gains .exit))) (now (reply .exit))
-        ≡ step (now (packet .entry)) (state (now (block .entry)) (now (staged .entry)) (now (live .entry)) (now (gains .entry))) (now (reply .entry)) ⌝ }
+    ensures { λ r. ⌜ outcome (r .status) (r .size)
+        (state (now (block .exit)) (now (staged .exit)) (now (live .exit)) (now (gains .exit))) (now (reply .exit))
+        ≡ step (now (packet .entry))
+        (state (now (block .entry)) (now (staged .entry)) (now (live .entry)) (now (gains .entry))) (now (reply .entry)) ⌝ }
 {
     let decision = controller::decide(packet, block);
     let Reading::Command {
@@ -119,9 +125,11 @@ fn perform(
     reply: &mut [u8],
 ) -> Outcome
     requires { ⌜ (stoppedBy (state (now block) (now staged) (now live) (now gains)) (now reply) ≡ false)
-        × (record { number = 0; opcode = opcode; options = options; place = at; size = size } ≡ decision (now packet) (now block)) ⌝ }
-    ensures { λ r. ⌜ outcome (r .status) (r .size) (state (now (block .exit)) (now (staged .exit)) (now (live .exit)) (now (gains .exit))) (now (reply .exit))
-        ≡ step (now (packet .entry)) (state (now (block .entry)) (now (staged .entry)) (now (live .entry)) (now (gains .entry))) (now (reply .entry)) ⌝ }
+        × (commandAt opcode options at size ≡ decision (now packet) (now block)) ⌝ }
+    ensures { λ r. ⌜ outcome (r .status) (r .size)
+        (state (now (block .exit)) (now (staged .exit)) (now (live .exit)) (now (gains .exit))) (now (reply .exit))
+        ≡ step (now (packet .entry))
+        (state (now (block .entry)) (now (staged .entry)) (now (live .entry)) (now (gains .entry))) (now (reply .entry)) ⌝ }
 {
     let data = &packet[at..at + size];
     if options / 128 % 2 == 1 {
@@ -135,12 +143,13 @@ fn perform(
 
 // Refusal 1: lengths, and then every setting.
 fn stopped(block: &[u8], staged: &[u16], live: &[u16], gains: &[u16], reply: &[u8]) -> bool
-    ensures { λ r. ⌜ r ≡ stoppedBy (state (now (block .entry)) (now (staged .entry)) (now (live .entry)) (now (gains .entry))) (now (reply .entry)) ⌝ }
+    ensures { λ r. ⌜ r
+        ≡ stoppedBy (state (now (block .entry)) (now (staged .entry)) (now (live .entry)) (now (gains .entry))) (now (reply .entry)) ⌝ }
 {
     if !lengths_right(block, staged, live, gains) {
         return true;
     }
-    if reply.len() < 512 {
+    if reply.len() < REPLY_ROOM {
         return true;
     }
     !settings::in_range(block)
@@ -156,10 +165,10 @@ fn answer_read(
     gains: &[u16],
     reply: &mut [u8],
 ) -> usize
-    requires { ⌜ Granted opcode options (now «data») (now block) × (isRead options ≡ 1) × (length (now staged) ≡ 3968) × (length (now gains) ≡ 6048)
-        × (512 ≤ length (now reply)) ⌝ }
-    ensures { λ r. ⌜ (r ≡ length (replyBytes (eqb (hasSum options) 1) 0 (dataBack opcode (now («data» .entry)) (state (now (block .entry)) (now (staged .entry)) [] (now (gains .entry))))))
-        × (now (reply .exit) ≡ over (replyBytes (eqb (hasSum options) 1) 0 (dataBack opcode (now («data» .entry)) (state (now (block .entry)) (now (staged .entry)) [] (now (gains .entry))))) (now (reply .entry))) ⌝ }
+    requires { ⌜ ReadGranted 1 opcode options (now «data») (now block) (now staged) (now gains) × (replyRoom ≤ length (now reply)) ⌝ }
+    ensures { λ r. ⌜ Overwrites r
+        (readReply opcode options (now («data» .entry)) (state (now (block .entry)) (now (staged .entry)) [] (now (gains .entry))))
+        (now (reply .entry)) (now (reply .exit)) ⌝ }
 {
     let n = fetch(&mut reply[3..], opcode, options, data, block, staged, gains);
     reply::seal(reply, 0, n, options / 32 % 2 == 1)
@@ -175,23 +184,38 @@ fn fetch(
     staged: &[u16],
     gains: &[u16],
 ) -> usize
-    requires { ⌜ Granted opcode options (now «data») (now block) × (isRead options ≡ 1) × (length (now staged) ≡ 3968) × (length (now gains) ≡ 6048)
-        × (508 ≤ length (now out)) ⌝ }
-    ensures { λ r. ⌜ (r ≡ length (dataBack opcode (now («data» .entry)) (state (now (block .entry)) (now (staged .entry)) [] (now (gains .entry)))))
-        × (now (out .exit) ≡ over (dataBack opcode (now («data» .entry)) (state (now (block .entry)) (now (staged .entry)) [] (now (gains .entry)))) (now (out .entry))) ⌝ }
+    requires { ⌜ ReadGranted 1 opcode options (now «data») (now block) (now staged) (now gains) × (dataRoom ≤ length (now out)) ⌝ }
+    ensures { λ r. ⌜ Overwrites r
+        (dataBack opcode (now («data» .entry)) (state (now (block .entry)) (now (staged .entry)) [] (now (gains .entry))))
+        (now (out .entry)) (now (out .exit)) ⌝ }
 {
     if opcode == 0x34 {
-        let count = wire::word(data, 2);
-        tables::words_out(out, staged, 2 * wire::word(data, 0), 2 * count);
-        return 4 * count;
+        return fetch_points(out, data, staged);
     }
     if opcode == 0x2B {
-        let count = wire::word(data, 3);
-        let place = 2016 * (wire::byte(data, 0) - 1) + wire::word(data, 1);
-        tables::words_out(out, gains, place, count);
-        return 2 * count;
+        return fetch_gains(out, data, gains);
     }
     controller::fetch(out, opcode, options, data, block)
+}
+
+// 34h: the staged points that the packet names.
+fn fetch_points(out: &mut [u8], data: &[u8], staged: &[u16]) -> usize
+    requires { ⌜ PointsRead (now «data») × (length (now staged) ≡ mapSize) × (dataRoom ≤ length (now out)) ⌝ }
+    ensures { λ r. ⌜ Overwrites r (readPoints (now («data» .entry)) (now (staged .entry))) (now (out .entry)) (now (out .exit)) ⌝ }
+{
+    let named = controller::points_named(true, data);
+    tables::words_out(out, staged, 2 * named.start, 2 * named.count);
+    4 * named.count
+}
+
+// 2Bh: the gains that the packet names.
+fn fetch_gains(out: &mut [u8], data: &[u8], gains: &[u16]) -> usize
+    requires { ⌜ GainsRead (now «data») × (length (now gains) ≡ gainsSize) × (dataRoom ≤ length (now out)) ⌝ }
+    ensures { λ r. ⌜ Overwrites r (readGains (now («data» .entry)) (now (gains .entry))) (now (out .entry)) (now (out .exit)) ⌝ }
+{
+    let named = controller::gains_named(true, data);
+    tables::words_out(out, gains, named.place, named.count);
+    2 * named.count
 }
 
 // An accepted write: into the block and the tables that its command names.
@@ -204,10 +228,10 @@ fn store(
     live: &mut [u16],
     gains: &mut [u16],
 )
-    requires { ⌜ Granted opcode options (now «data») (now block) × (isRead options ≡ 0) × (length (now staged) ≡ 3968) × (length (now live) ≡ 3968)
-        × (length (now gains) ≡ 6048) ⌝ }
+    requires { ⌜ WriteGranted 1 opcode options (now «data») (now block) (now staged) (now live) (now gains) ⌝ }
     ensures { λ _. ⌜ state (now (block .exit)) (now (staged .exit)) (now (live .exit)) (now (gains .exit))
-        ≡ written opcode (now («data» .entry)) (state (now (block .entry)) (now (staged .entry)) (now (live .entry)) (now (gains .entry))) ⌝ }
+        ≡ written opcode (now («data» .entry))
+        (state (now (block .entry)) (now (staged .entry)) (now (live .entry)) (now (gains .entry))) ⌝ }
 {
     apply(opcode, data, staged, live);
     store_points(opcode, data, staged);
@@ -218,7 +242,7 @@ fn store(
 // 36h with 1: all staged points become live.
 fn apply(opcode: usize, data: &[u8], staged: &[u16], live: &mut [u16])
     requires { ⌜ length (now live) ≡ length (now staged) ⌝ }
-    ensures { λ _. ⌜ now (live .exit) ≡ cond (eqb opcode 0x36) (applyLive (now («data» .entry)) (now (staged .entry)) (now (live .entry))) (now (live .entry)) ⌝ }
+    ensures { λ _. ⌜ now (live .exit) ≡ liveAfter opcode (now («data» .entry)) (now (staged .entry)) (now (live .entry)) ⌝ }
 {
     if opcode != 0x36 {
         return;
@@ -231,32 +255,29 @@ fn apply(opcode: usize, data: &[u8], staged: &[u16], live: &mut [u16])
 
 // 34h: the points of the packet, from its start on.
 fn store_points(opcode: usize, data: &[u8], staged: &mut [u16])
-    requires { ⌜ (opcode ≡ 0x34 → PointsWrite (now «data»)) × (length (now staged) ≡ 3968) ⌝ }
-    ensures { λ _. ⌜ now (staged .exit) ≡ cond (eqb opcode 0x34) (writePoints (startOf (now («data» .entry))) (pointsOf (now («data» .entry))) (now (staged .entry))) (now (staged .entry)) ⌝ }
+    requires { ⌜ (opcode ≡ 0x34 → PointsWrite (now «data»)) × (length (now staged) ≡ mapSize) ⌝ }
+    ensures { λ _. ⌜ now (staged .exit) ≡ stagedAfter opcode (now («data» .entry)) (now (staged .entry)) ⌝ }
 {
     if opcode != 0x34 {
         return;
     }
-    let numbers = (data.len() - 2) / 2;
-    tables::words_in(staged, 2 * wire::word(data, 0), data, 2, numbers);
+    let named = controller::points_named(false, data);
+    tables::words_in(staged, 2 * named.start, data, 2, 2 * named.count);
 }
 
 // 2Bh: the words of the packet, into one third of the gains or, for colour 0, into all three.
 fn store_gains(opcode: usize, data: &[u8], gains: &mut [u16])
-    requires { ⌜ (opcode ≡ 0x2B → GainsWrite (now «data»)) × (length (now gains) ≡ 6048) ⌝ }
-    ensures { λ _. ⌜ now (gains .exit) ≡ cond (eqb opcode 0x2B) (writeGains (now («data» .entry)) (now (gains .entry))) (now (gains .entry)) ⌝ }
+    requires { ⌜ (opcode ≡ 0x2B → GainsWrite (now «data»)) × (length (now gains) ≡ gainsSize) ⌝ }
+    ensures { λ _. ⌜ now (gains .exit) ≡ gainsAfter opcode (now («data» .entry)) (now (gains .entry)) ⌝ }
 {
     if opcode != 0x2B {
         return;
     }
-    let colour = wire::byte(data, 1);
-    let count = wire::word(data, 2);
-    let start = wire::word(data, 4);
-    if colour == 0 {
-        tables::words_in(gains, start, data, 6, count);
-        tables::words_in(gains, 2016 + start, data, 6, count);
-        tables::words_in(gains, 4032 + start, data, 6, count);
+    let named = controller::gains_named(false, data);
+    tables::words_in(gains, named.place, data, 6, named.count);
+    if named.colour != 0 {
         return;
     }
-    tables::words_in(gains, 2016 * (colour - 1) + start, data, 6, count);
+    tables::words_in(gains, COLOUR_GAINS + named.place, data, 6, named.count);
+    tables::words_in(gains, 2 * COLOUR_GAINS + named.place, data, 6, named.count);
 }

@@ -10,9 +10,9 @@ use lib.Dec.{leb}
 use Rattle.wire.proofs.Tests.{told}
 use Rattle.wire.specs.Tables.{bytes}
 use Rattle.settings.specs.Ranges.{settingsRight}
-use Rattle.settings.specs.Reset.{resetBlock, resetMap, resetGains}
+use Rattle.settings.specs.Reset.{mapSize, gainsSize, resetBlock, resetMap, resetGains}
 use Rattle.tables.proofs.Bytes.{Below, bytes-words, length-words-of}
-use Rattle.controller.specs.State.{State, lengthsRight, stopped}
+use Rattle.controller.specs.State.{replyRoom, State, lengthsRight, stopped}
 use Rattle.controller.specs.Step.{out, step}
 use Rattle.controller.proofs.Steps.{step-stopped}
 use Rattle.controller8.specs.Bytes.{Lent, stateIn, lentOf, byteLengthsRight, lentOut, stepBytes, lentReset, resetBytes, BytesLent}
@@ -33,9 +33,9 @@ module _ (l : Lent) where
   -- Their numbers are as many as they must be.
   pub wide-lengths : BytesLent l → lengthsRight (stateIn l) ≡ true
   wide-lengths z =
-      rw (z .block, length-words-of (l .staged) 3968 (z .staged), length-words-of (l .live) 3968 (z .live), length-words-of (l .gains) 6048 (z .gains))
+      rw (z .block, length-words-of (l .staged) mapSize (z .staged), length-words-of (l .live) mapSize (z .live), length-words-of (l .gains) gainsSize (z .gains))
 
-  pub stopped-by : (reply : List ℕ) → BytesLent l → stopped (stateIn l) reply ≡ (not (leb 512 (length reply)) || not (settingsRight (l .block)))
+  pub stopped-by : (reply : List ℕ) → BytesLent l → stopped (stateIn l) reply ≡ (not (leb replyRoom (length reply)) || not (settingsRight (l .block)))
   unfolding stopped
   stopped-by reply z = rw (wide-lengths z)
 
@@ -76,7 +76,7 @@ pub reset-way : (l : Lent) → byteLengthsRight l ≡ true → (t : Lent) → t 
 unfolding resetBytes resetMap resetGains
 reset-way l right t eb es el eg =
     let z = sized l right in
-    let staged : length (l .staged) / 2 ≡ 3968 = omega (arith, z .staged) in
-    let live : length (l .live) / 2 ≡ 3968 = omega (arith, z .live) in
-    let gains : length (l .gains) / 2 ≡ 6048 = omega (arith, z .gains) in
+    let staged : length (l .staged) / 2 ≡ mapSize = omega (arith, z .staged) in
+    let live : length (l .live) / 2 ≡ mapSize = omega (arith, z .live) in
+    let gains : length (l .gains) / 2 ≡ gainsSize = omega (arith, z .gains) in
     rw (right, eb, es, el, eg, staged, live, gains)

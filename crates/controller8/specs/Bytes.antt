@@ -2,12 +2,13 @@
 use Prim.Native.Nat.{ℕ}
 use mathlib.Core.Path.{_≡_}
 use mathlib.Core.Logic.{_↔_}
-use mathlib.Core.Bool.{Bool, cond, _&&_}
+use mathlib.Core.Bool.{Bool, cond, not, _&&_, _||_}
 use mathlib.Core.List.{List}
 use lib.ListN.{length, drop}
 use lib.Dec.{eqb}
 use Rattle.wire.specs.Tables.{words, bytes}
-use Rattle.controller.specs.State.{State, resetState, resetOut}
+use Rattle.settings.specs.Layout.{blockSize}
+use Rattle.controller.specs.State.{State, stopped, resetState, resetOut}
 use Rattle.controller.specs.Step.{Out, out, step}
 use Rattle.controller.specs.Demands.{Accepted, Handled, Resets}
 
@@ -28,13 +29,24 @@ stateIn l = record { block = l .block; staged = words (l .staged); live = words 
 abbrev pub lentOf : State → Lent
 lentOf s = record { block = s .block; staged = bytes (s .staged); live = bytes (s .live); gains = bytes (s .gains) }
 
--- Rule 1.3: two bytes for each number: block 1,024, maps 7,936, gains 12,096.
+-- Rule 1.3: two bytes for each number.
+abbrev pub mapBytes : ℕ
+mapBytes = 7936
+
+abbrev pub gainsBytes : ℕ
+gainsBytes = 12096
+
+-- Rule 1.3: lengths in bytes.
 abbrev pub byteLengthsRight : Lent → Bool
 byteLengthsRight l =
-    eqb (length (l .block)) 1024
-    && eqb (length (l .staged)) 7936
-    && eqb (length (l .live)) 7936
-    && eqb (length (l .gains)) 12096
+    eqb (length (l .block)) blockSize
+    && eqb (length (l .staged)) mapBytes
+    && eqb (length (l .live)) mapBytes
+    && eqb (length (l .gains)) gainsBytes
+
+-- Rule 4.1, 1: refusal 1 on bytes.
+abbrev pub stoppedBytes : Lent → List ℕ → Bool
+stoppedBytes l reply = not (byteLengthsRight l) || stopped (stateIn l) reply
 
 -- The answer, and all that was lent, as it is left.
 pub record LentOut : Type 0 where

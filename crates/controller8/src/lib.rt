@@ -1,22 +1,32 @@
 // The front end on tables lent as bytes, low byte first, where they lie: what the C entries stand on.
+use controller::COLOUR_GAINS;
+use controller::GAINS_SIZE;
+use controller::MAP_SIZE;
 use controller::Outcome;
+use controller::REPLY_ROOM;
 use packet::Reading;
+use settings::layout::BLOCK_SIZE;
 ghost use mathlib.Core.Path.{_≡_};
-ghost use mathlib.Core.Bool.{cond, true, false, not, _||_};
+ghost use mathlib.Core.Bool.{true, false};
 ghost use mathlib.Core.List.{[]};
 ghost use Prim.Native.Nat.{_≤_};
 ghost use lib.ListN.{length};
-ghost use lib.Dec.{eqb};
-ghost use Rattle.wire.specs.Buffers.{over};
-ghost use Rattle.opcode.specs.Options.{isRead, hasSum};
-ghost use Rattle.packet.specs.Points.{writePoints, startOf, pointsOf};
-ghost use Rattle.reply.specs.Reply.{replyBytes};
-ghost use Rattle.controller.specs.State.{«stopped» as stoppedBy};
-ghost use Rattle.controller8.specs.Bytes.{lent, stateIn, lentOf, byteLengthsRight, lentOut, stepBytes, lentReset, HandledBytes, ResetsBytes};
+ghost use Rattle.wire.specs.Buffers.{Overwrites};
 ghost use Rattle.wire.specs.Tables.{words, bytes};
-ghost use Rattle.controller.specs.Commands.{written, writeGains, applyLive, dataBack};
-ghost use Rattle.controller.specs.Step.{decision};
-ghost use Rattle.controller.specs.Internal.{Granted, PointsWrite, GainsWrite};
+ghost use Rattle.packet.specs.Reading.{commandAt};
+ghost use Rattle.controller.specs.State.{replyRoom, dataRoom, «stopped» as stoppedBy};
+ghost use Rattle.controller.specs.Commands.{stagedAfter, liveAfter, gainsAfter, written, readPoints, readGains, dataBack};
+ghost use Rattle.controller.specs.Step.{decision, readReply};
+ghost use Rattle.controller.specs.Internal.{PointsWrite, PointsRead, GainsWrite, GainsRead, ReadGranted, WriteGranted};
+ghost use Rattle.controller8.specs.Bytes.{mapBytes, gainsBytes, lent, stateIn, lentOf, byteLengthsRight, stoppedBytes};
+ghost use Rattle.controller8.specs.Bytes.{lentOut, stepBytes, lentReset, HandledBytes, ResetsBytes};
+
+// Two bytes for each number.
+const MAP_BYTES: usize = 2 * MAP_SIZE;
+
+const GAINS_BYTES: usize = 2 * GAINS_SIZE;
+
+const COLOUR_BYTES: usize = 2 * COLOUR_GAINS;
 
 // Puts the block and all tables as they are after reset. Answers 0, or 1 for a wrong length, when nothing is changed.
 pub fn reset(block: &mut [u8], staged: &mut [u8], live: &mut [u8], gains: &mut [u8]) -> u8
@@ -35,18 +45,19 @@ pub fn reset(block: &mut [u8], staged: &mut [u8], live: &mut [u8], gains: &mut [
 
 // Whether each lent list has the length it must have.
 fn lengths_right(block: &[u8], staged: &[u8], live: &[u8], gains: &[u8]) -> bool
-    ensures { λ r. ⌜ r ≡ byteLengthsRight (lent (now (block .entry)) (now (staged .entry)) (now (live .entry)) (now (gains .entry))) ⌝ }
+    ensures { λ r. ⌜ r
+        ≡ byteLengthsRight (lent (now (block .entry)) (now (staged .entry)) (now (live .entry)) (now (gains .entry))) ⌝ }
 {
-    if block.len() != 1024 {
+    if block.len() != BLOCK_SIZE {
         return false;
     }
-    if staged.len() != 7936 {
+    if staged.len() != MAP_BYTES {
         return false;
     }
-    if live.len() != 7936 {
+    if live.len() != MAP_BYTES {
         return false;
     }
-    gains.len() == 12096
+    gains.len() == GAINS_BYTES
 }
 
 // One packet on a state: any bytes, any lent lengths.
@@ -80,8 +91,10 @@ fn decided(
 ) -> Outcome
     requires { ⌜ (byteLengthsRight (lent (now block) (now staged) (now live) (now gains)) ≡ true)
         × (stoppedBy (stateIn (lent (now block) (now staged) (now live) (now gains))) (now reply) ≡ false) ⌝ }
-    ensures { λ r. ⌜ lentOut (r .status) (r .size) (lent (now (block .exit)) (now (staged .exit)) (now (live .exit)) (now (gains .exit))) (now (reply .exit))
-        ≡ stepBytes (now (packet .entry)) (lent (now (block .entry)) (now (staged .entry)) (now (live .entry)) (now (gains .entry))) (now (reply .entry)) ⌝ }
+    ensures { λ r. ⌜ lentOut (r .status) (r .size)
+        (lent (now (block .exit)) (now (staged .exit)) (now (live .exit)) (now (gains .exit))) (now (reply .exit))
+        ≡ stepBytes (now (packet .entry))
+        (lent (now (block .entry)) (now (staged .entry)) (now (live .entry)) (now (gains .entry))) (now (reply .entry)) ⌝ }
 {
     let decision = controller::decide(packet, block);
     let Reading::Command {
@@ -122,9 +135,11 @@ fn perform(
 ) -> Outcome
     requires { ⌜ (byteLengthsRight (lent (now block) (now staged) (now live) (now gains)) ≡ true)
         × (stoppedBy (stateIn (lent (now block) (now staged) (now live) (now gains))) (now reply) ≡ false)
-        × (record { number = 0; opcode = opcode; options = options; place = at; size = size } ≡ decision (now packet) (now block)) ⌝ }
-    ensures { λ r. ⌜ lentOut (r .status) (r .size) (lent (now (block .exit)) (now (staged .exit)) (now (live .exit)) (now (gains .exit))) (now (reply .exit))
-        ≡ stepBytes (now (packet .entry)) (lent (now (block .entry)) (now (staged .entry)) (now (live .entry)) (now (gains .entry))) (now (reply .entry)) ⌝ }
+        × (commandAt opcode options at size ≡ decision (now packet) (now block)) ⌝ }
+    ensures { λ r. ⌜ lentOut (r .status) (r .size)
+        (lent (now (block .exit)) (now (staged .exit)) (now (live .exit)) (now (gains .exit))) (now (reply .exit))
+        ≡ stepBytes (now (packet .entry))
+        (lent (now (block .entry)) (now (staged .entry)) (now (live .entry)) (now (gains .entry))) (now (reply .entry)) ⌝ }
 {
     let data = &packet[at..at + size];
     if options / 128 % 2 == 1 {
@@ -138,12 +153,13 @@ fn perform(
 
 // Refusal 1: lengths, and then every setting.
 fn stopped(block: &[u8], staged: &[u8], live: &[u8], gains: &[u8], reply: &[u8]) -> bool
-    ensures { λ r. ⌜ r ≡ (not (byteLengthsRight (lent (now (block .entry)) (now (staged .entry)) (now (live .entry)) (now (gains .entry)))) || stoppedBy (stateIn (lent (now (block .entry)) (now (staged .entry)) (now (live .entry)) (now (gains .entry)))) (now (reply .entry))) ⌝ }
+    ensures { λ r. ⌜ r
+        ≡ stoppedBytes (lent (now (block .entry)) (now (staged .entry)) (now (live .entry)) (now (gains .entry))) (now (reply .entry)) ⌝ }
 {
     if !lengths_right(block, staged, live, gains) {
         return true;
     }
-    if reply.len() < 512 {
+    if reply.len() < REPLY_ROOM {
         return true;
     }
     !settings::in_range(block)
@@ -159,10 +175,11 @@ fn answer_read(
     gains: &[u8],
     reply: &mut [u8],
 ) -> usize
-    requires { ⌜ Granted opcode options (now «data») (now block) × (isRead options ≡ 1) × (length (now staged) ≡ 7936) × (length (now gains) ≡ 12096)
-        × (512 ≤ length (now reply)) ⌝ }
-    ensures { λ r. ⌜ (r ≡ length (replyBytes (eqb (hasSum options) 1) 0 (dataBack opcode (now («data» .entry)) (stateIn (lent (now (block .entry)) (now (staged .entry)) [] (now (gains .entry)))))))
-        × (now (reply .exit) ≡ over (replyBytes (eqb (hasSum options) 1) 0 (dataBack opcode (now («data» .entry)) (stateIn (lent (now (block .entry)) (now (staged .entry)) [] (now (gains .entry)))))) (now (reply .entry))) ⌝ }
+    requires { ⌜ ReadGranted 2 opcode options (now «data») (now block) (now staged) (now gains) × (replyRoom ≤ length (now reply)) ⌝ }
+    ensures { λ r. ⌜ Overwrites r
+        (readReply opcode options (now («data» .entry))
+        (stateIn (lent (now (block .entry)) (now (staged .entry)) [] (now (gains .entry)))))
+        (now (reply .entry)) (now (reply .exit)) ⌝ }
 {
     let n = fetch(&mut reply[3..], opcode, options, data, block, staged, gains);
     reply::seal(reply, 0, n, options / 32 % 2 == 1)
@@ -178,23 +195,38 @@ fn fetch(
     staged: &[u8],
     gains: &[u8],
 ) -> usize
-    requires { ⌜ Granted opcode options (now «data») (now block) × (isRead options ≡ 1) × (length (now staged) ≡ 7936) × (length (now gains) ≡ 12096)
-        × (508 ≤ length (now out)) ⌝ }
-    ensures { λ r. ⌜ (r ≡ length (dataBack opcode (now («data» .entry)) (stateIn (lent (now (block .entry)) (now (staged .entry)) [] (now (gains .entry))))))
-        × (now (out .exit) ≡ over (dataBack opcode (now («data» .entry)) (stateIn (lent (now (block .entry)) (now (staged .entry)) [] (now (gains .entry))))) (now (out .entry))) ⌝ }
+    requires { ⌜ ReadGranted 2 opcode options (now «data») (now block) (now staged) (now gains) × (dataRoom ≤ length (now out)) ⌝ }
+    ensures { λ r. ⌜ Overwrites r
+        (dataBack opcode (now («data» .entry)) (stateIn (lent (now (block .entry)) (now (staged .entry)) [] (now (gains .entry)))))
+        (now (out .entry)) (now (out .exit)) ⌝ }
 {
     if opcode == 0x34 {
-        let count = wire::word(data, 2);
-        wire::copy(out, 0, staged, 4 * wire::word(data, 0), 4 * count);
-        return 4 * count;
+        return fetch_points(out, data, staged);
     }
     if opcode == 0x2B {
-        let count = wire::word(data, 3);
-        let place = 2016 * (wire::byte(data, 0) - 1) + wire::word(data, 1);
-        wire::copy(out, 0, gains, 2 * place, 2 * count);
-        return 2 * count;
+        return fetch_gains(out, data, gains);
     }
     controller::fetch(out, opcode, options, data, block)
+}
+
+// 34h: the staged points that the packet names.
+fn fetch_points(out: &mut [u8], data: &[u8], staged: &[u8]) -> usize
+    requires { ⌜ PointsRead (now «data») × (length (now staged) ≡ mapBytes) × (dataRoom ≤ length (now out)) ⌝ }
+    ensures { λ r. ⌜ Overwrites r (readPoints (now («data» .entry)) (words (now (staged .entry)))) (now (out .entry)) (now (out .exit)) ⌝ }
+{
+    let named = controller::points_named(true, data);
+    wire::copy(out, 0, staged, 4 * named.start, 4 * named.count);
+    4 * named.count
+}
+
+// 2Bh: the gains that the packet names.
+fn fetch_gains(out: &mut [u8], data: &[u8], gains: &[u8]) -> usize
+    requires { ⌜ GainsRead (now «data») × (length (now gains) ≡ gainsBytes) × (dataRoom ≤ length (now out)) ⌝ }
+    ensures { λ r. ⌜ Overwrites r (readGains (now («data» .entry)) (words (now (gains .entry)))) (now (out .entry)) (now (out .exit)) ⌝ }
+{
+    let named = controller::gains_named(true, data);
+    wire::copy(out, 0, gains, 2 * named.place, 2 * named.count);
+    2 * named.count
 }
 
 // An accepted write: into the block and the tables that its command names.
@@ -207,10 +239,10 @@ fn store(
     live: &mut [u8],
     gains: &mut [u8],
 )
-    requires { ⌜ Granted opcode options (now «data») (now block) × (isRead options ≡ 0) × (length (now staged) ≡ 7936) × (length (now live) ≡ 7936)
-        × (length (now gains) ≡ 12096) ⌝ }
+    requires { ⌜ WriteGranted 2 opcode options (now «data») (now block) (now staged) (now live) (now gains) ⌝ }
     ensures { λ _. ⌜ lent (now (block .exit)) (now (staged .exit)) (now (live .exit)) (now (gains .exit))
-        ≡ lentOf (written opcode (now («data» .entry)) (stateIn (lent (now (block .entry)) (now (staged .entry)) (now (live .entry)) (now (gains .entry))))) ⌝ }
+        ≡ lentOf (written opcode (now («data» .entry))
+        (stateIn (lent (now (block .entry)) (now (staged .entry)) (now (live .entry)) (now (gains .entry))))) ⌝ }
 {
     apply(opcode, data, staged, live);
     store_points(opcode, data, staged);
@@ -220,8 +252,9 @@ fn store(
 
 // 36h with 1: all staged points become live.
 fn apply(opcode: usize, data: &[u8], staged: &[u8], live: &mut [u8])
-    requires { ⌜ (length (now staged) ≡ 7936) × (length (now live) ≡ 7936) ⌝ }
-    ensures { λ _. ⌜ now (live .exit) ≡ bytes (cond (eqb opcode 0x36) (applyLive (now («data» .entry)) (words (now (staged .entry))) (words (now (live .entry)))) (words (now (live .entry)))) ⌝ }
+    requires { ⌜ (length (now staged) ≡ mapBytes) × (length (now live) ≡ mapBytes) ⌝ }
+    ensures { λ _. ⌜ now (live .exit)
+        ≡ bytes (liveAfter opcode (now («data» .entry)) (words (now (staged .entry))) (words (now (live .entry)))) ⌝ }
 {
     if opcode != 0x36 {
         return;
@@ -229,36 +262,36 @@ fn apply(opcode: usize, data: &[u8], staged: &[u8], live: &mut [u8])
     if wire::byte(data, 0) != 1 {
         return;
     }
-    wire::copy(live, 0, staged, 0, 7936);
+    wire::copy(live, 0, staged, 0, MAP_BYTES);
 }
 
 // 34h: the points of the packet, from its start on.
 fn store_points(opcode: usize, data: &[u8], staged: &mut [u8])
-    requires { ⌜ (opcode ≡ 0x34 → PointsWrite (now «data»)) × (length (now staged) ≡ 7936) ⌝ }
-    ensures { λ _. ⌜ now (staged .exit) ≡ bytes (cond (eqb opcode 0x34) (writePoints (startOf (now («data» .entry))) (pointsOf (now («data» .entry))) (words (now (staged .entry)))) (words (now (staged .entry)))) ⌝ }
+    requires { ⌜ (opcode ≡ 0x34 → PointsWrite (now «data»)) × (length (now staged) ≡ mapBytes) ⌝ }
+    ensures { λ _. ⌜ now (staged .exit) ≡ bytes (stagedAfter opcode (now («data» .entry)) (words (now (staged .entry)))) ⌝ }
 {
     if opcode != 0x34 {
         return;
     }
-    wire::copy(staged, 4 * wire::word(data, 0), data, 2, data.len() - 2);
+    let named = controller::points_named(false, data);
+    wire::copy(staged, 4 * named.start, data, 2, 4 * named.count);
 }
 
 // 2Bh: the words of the packet, into one third of the gains or, for colour 0, into all three.
 fn store_gains(opcode: usize, data: &[u8], gains: &mut [u8])
-    requires { ⌜ (opcode ≡ 0x2B → GainsWrite (now «data»)) × (length (now gains) ≡ 12096) ⌝ }
-    ensures { λ _. ⌜ now (gains .exit) ≡ bytes (cond (eqb opcode 0x2B) (writeGains (now («data» .entry)) (words (now (gains .entry)))) (words (now (gains .entry)))) ⌝ }
+    requires { ⌜ (opcode ≡ 0x2B → GainsWrite (now «data»)) × (length (now gains) ≡ gainsBytes) ⌝ }
+    ensures { λ _. ⌜ now (gains .exit) ≡ bytes (gainsAfter opcode (now («data» .entry)) (words (now (gains .entry)))) ⌝ }
 {
     if opcode != 0x2B {
         return;
     }
-    let colour = wire::byte(data, 1);
-    let count = wire::word(data, 2);
-    let start = wire::word(data, 4);
-    if colour == 0 {
-        wire::copy(gains, 2 * start, data, 6, 2 * count);
-        wire::copy(gains, 4032 + 2 * start, data, 6, 2 * count);
-        wire::copy(gains, 8064 + 2 * start, data, 6, 2 * count);
+    let named = controller::gains_named(false, data);
+    let place = 2 * named.place;
+    let size = 2 * named.count;
+    wire::copy(gains, place, data, 6, size);
+    if named.colour != 0 {
         return;
     }
-    wire::copy(gains, 4032 * (colour - 1) + 2 * start, data, 6, 2 * count);
+    wire::copy(gains, COLOUR_BYTES + place, data, 6, size);
+    wire::copy(gains, 2 * COLOUR_BYTES + place, data, 6, size);
 }

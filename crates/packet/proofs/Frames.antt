@@ -10,12 +10,12 @@ use lib.Dec.{eqb}
 use Rattle.wire.specs.First.{first}
 use Rattle.opcode.specs.Judgement.{judgement}
 use Rattle.packet.specs.Frame.{headerOf, opcodeOf, optionsOf, place, fields, dataSize, dataOf}
-use Rattle.packet.specs.Reading.{Answer, tooShort, tooLong, lengthDiffers, checksumDiffers, elsewhere, frameRefusals, refusals, refusedBy, answered, reading}
+use Rattle.packet.specs.Reading.{Answer, tooShort, tooLong, lengthDiffers, checksumDiffers, elsewhere, frameRefusals, refusals, commandAt, refusedBy, answered, reading}
 use Rattle.packet.specs.Internal.{framed}
 
 -- What stands in a packet.
 abbrev pub standing : List ℕ → Answer
-standing p = record { number = 0; opcode = opcodeOf p; options = optionsOf p; place = place (headerOf p); size = dataSize p }
+standing p = commandAt (opcodeOf p) (optionsOf p) (place (headerOf p)) (dataSize p)
 
 -- The five tests of a frame.
 abbrev pub rows : Bool → Bool → Bool → Bool → Bool → List (ℕ × Bool)
@@ -66,12 +66,12 @@ stand-in true w n v e = rw e
 stand-in false w n v e = rw (eq-eqb v n e)
 
 pub standing-as : (p : List ℕ) {op o at size : ℕ} → op ≡ opcodeOf p → o ≡ optionsOf p → at ≡ place (headerOf p) → size ≡ dataSize p
-    → record { number = 0; opcode = op; options = o; place = at; size = size } ≡ standing p
+    → commandAt op o at size ≡ standing p
 standing-as p h i j k = rw (h, i, j, k)
 
 -- An answer is sound exactly if its number is 0: a refusal has no place, and data is never at place 0.
 sound-zero : (b : Bool) (n : ℕ) (p : List ℕ) {op o at size : ℕ} → eqb n 0 ≡ b
-    → record { number = 0; opcode = op; options = o; place = at; size = size } ≡ cond b (standing p) (refusedBy n) → n ≡ 0
+    → commandAt op o at size ≡ cond b (standing p) (refusedBy n) → n ≡ 0
 sound-zero true n p e h = eqb-true n 0 e
 sound-zero false n p e h = sym (ap (λ (a : Answer). a .number) h)
 
@@ -110,12 +110,12 @@ pub record Stands (p : List ℕ) (op o at size : ℕ) : Type 0 where
   pub whole : fields (headerOf p) ≤ length p
   pub short : length p ≤ 512
 
-pub stands : (p : List ℕ) (op o at size : ℕ) → record { number = 0; opcode = op; options = o; place = at; size = size } ≡ framed p
+pub stands : (p : List ℕ) (op o at size : ℕ) → commandAt op o at size ≡ framed p
     → Stands p op o at size
 unfolding framed
 stands p op o at size h =
     let zero-number = sound-zero (eqb (first (frameRefusals p)) 0) (first (frameRefusals p)) p refl h in
-    let same : record { number = 0; opcode = op; options = o; place = at; size = size } ≡ standing p =
+    let same : commandAt op o at size ≡ standing p =
     h ∙ ap (λ (n : ℕ). answered n p) zero-number in
     let tests = none-of (tooShort p) (tooLong p) (lengthDiffers p) (checksumDiffers p) (elsewhere p) [] zero-number .0 in
     record {
@@ -132,9 +132,9 @@ stands p op o at size h =
 pub alike : (J : ℕ → ℕ → List ℕ → ℕ) {op op′ o o′ : ℕ} {d d′ : List ℕ} → op ≡ op′ → o ≡ o′ → d ≡ d′ → J op o d ≡ J op′ o′ d′
 alike J e f g = rw (e, f, g)
 
-pub judged-read : (p : List ℕ) (op o at size n : ℕ) → record { number = 0; opcode = op; options = o; place = at; size = size } ≡ framed p
+pub judged-read : (p : List ℕ) (op o at size n : ℕ) → commandAt op o at size ≡ framed p
     → n ≡ first (judgement op o (take (at + size - at) (drop at p)))
-    → cond (eqb n 0) (record { number = 0; opcode = op; options = o; place = at; size = size }) (refusedBy n) ≡ reading p
+    → cond (eqb n 0) (commandAt op o at size) (refusedBy n) ≡ reading p
 unfolding framed reading
 judged-read p op o at size n h e =
     let s = stands p op o at size h in

@@ -2,7 +2,7 @@
 use Prim.Native.Nat.{ℕ}
 use mathlib.Core.List.{List}
 use Rattle.wire.specs.First.{first}
-use Rattle.packet.specs.Reading.{Answer, frameRefusals, refusedBy, answered}
+use Rattle.packet.specs.Reading.{Answer, frameRefusals, commandAt, refusedBy, answered}
 use Rattle.packet.specs.declared.Frame.{Frame}
 use Rattle.packet.specs.declared.Frame.the-variants.{Sound, Broken}
 
@@ -11,6 +11,5 @@ unfoldable pub framed : List ℕ → Answer
 framed p = answered (first (frameRefusals p)) p
 
 abbrev pub frameAnswer : Frame → Answer
-frameAnswer (Sound opcode options at size) =
-    record { number = 0; opcode = opcode; options = options; place = at; size = size }
+frameAnswer (Sound opcode options at size) = commandAt opcode options at size
 frameAnswer (Broken why) = refusedBy (why .number)

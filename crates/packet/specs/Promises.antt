@@ -8,7 +8,7 @@ use lib.ListN.{length, take, drop}
 use Rattle.wire.specs.Buffers.{over}
 use Rattle.opcode.specs.Options.{optionsIn}
 use Rattle.packet.specs.Frame.{place, fields, dataOf}
-use Rattle.packet.specs.Reading.{Answer, reading}
+use Rattle.packet.specs.Reading.{commandAt, Answer, reading}
 use Rattle.packet.specs.Sound.{Taken, FrameNumber}
 use Rattle.packet.specs.Making.{packetOf, Made, made}
 
@@ -32,7 +32,7 @@ pub record PacketRead (p : List ℕ) (a : Answer) : Type 0 where
 -- Rule 4.5: what was made reads back as the command and the options that it was made from, and its data byte for byte.
 pub record ReadsAsMade (op options : ℕ) (d : List ℕ) (m : Made) : Type 0 where
   pub command : reading (take (m .size) (m .buffer))
-      ≡ record { number = 0; opcode = op; options = optionsIn options; place = place (optionsIn options); size = length d }
+      ≡ commandAt op (optionsIn options) (place (optionsIn options)) (length d)
   pub content : dataOf (take (m .size) (m .buffer)) ≡ d
 
 -- Rule 4.4: making, of its answer and the buffer that it leaves.

@@ -57,14 +57,15 @@ pub record Answer : Type 0 where
   pub place : ℕ
   pub size : ℕ
 
+abbrev pub commandAt : ℕ → ℕ → ℕ → ℕ → Answer
+commandAt opcode options at size = record { number = 0; opcode = opcode; options = options; place = at; size = size }
+
 abbrev pub refusedBy : ℕ → Answer
 refusedBy n = record { number = n; opcode = 0; options = 0; place = 0; size = 0 }
 
 abbrev pub answered : ℕ → List ℕ → Answer
 answered n p =
-    cond (eqb n 0)
-    (record { number = 0; opcode = opcodeOf p; options = optionsOf p; place = place (headerOf p); size = dataSize p })
-    (refusedBy n)
+    cond (eqb n 0) (commandAt (opcodeOf p) (optionsOf p) (place (headerOf p)) (dataSize p)) (refusedBy n)
 
 -- Rule 2.6: the first refusal that applies, or the command.
 unfoldable pub reading : List ℕ → Answer
@@ -72,6 +73,5 @@ reading p = answered (first (refusals p)) p
 
 -- Number and values of each case of the code's answer.
 abbrev pub answer : Reading → Answer
-answer (Command opcode options at size) =
-    record { number = 0; opcode = opcode; options = options; place = at; size = size }
+answer (Command opcode options at size) = commandAt opcode options at size
 answer (Refused why) = refusedBy (why .number)

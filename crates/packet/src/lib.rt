@@ -9,7 +9,7 @@ ghost use lib.Seq.{sets};
 ghost use lib.Dec.{eqb};
 ghost use Rattle.wire.specs.Numbers.{byteAt, wordAt, wordBytes};
 ghost use Rattle.wire.specs.Checksum.{«checksum»};
-ghost use Rattle.wire.specs.Buffers.{over};
+ghost use Rattle.wire.specs.Buffers.{Overwrites};
 ghost use Rattle.opcode.specs.Options.{twoByte, hasLength};
 ghost use Rattle.packet.specs.Reading.{answer, refusedBy, checksumDiffers};
 ghost use Rattle.packet.specs.Frame.{«fields»};
@@ -26,6 +26,23 @@ pub enum Reading {
         size: usize,
     },
     Refused(Refusal),
+}
+
+impl Reading {
+    // Why there is no command; number 0 where there is one.
+    pub fn refusal(self) -> Refusal
+        ensures { λ r. ⌜ r .number ≡ answer self .number ⌝ }
+    {
+        match self {
+            Reading::Refused(why) => why,
+            Reading::Command {
+                opcode: _,
+                options: _,
+                at: _,
+                size: _,
+            } => Refusal { number: 0 },
+        }
+    }
 }
 
 // A place in a packet. Each step hands back what it took and the moved place.
@@ -231,8 +248,7 @@ pub fn make(opcode: u16, options: u8, data: &[u8], buffer: &mut [u8]) -> Made
 // Writes a packet that fits, field by field, and answers its size.
 fn write_packet(buffer: &mut [u8], opcode: usize, o: usize, data: &[u8]) -> usize
     requires { ⌜ (opcode < 256) × (o ≤ 248) × (512 ≤ length (now buffer)) × («fields» o + length (now «data») ≤ 512) ⌝ }
-    ensures { λ r. ⌜ (r ≡ length (packetOf opcode o (now («data» .entry))))
-        × (now (buffer .exit) ≡ over (packetOf opcode o (now («data» .entry))) (now (buffer .entry))) ⌝ }
+    ensures { λ r. ⌜ Overwrites r (packetOf opcode o (now («data» .entry))) (now (buffer .entry)) (now (buffer .exit)) ⌝ }
 {
     wire::put_byte(buffer, 0, 4 + o);
     wire::put_byte(buffer, 1, opcode);

@@ -3,7 +3,7 @@ use wire::Refusal;
 ghost use mathlib.Core.Path.{_≡_};
 ghost use Prim.Native.Nat.{_+_, _<_, _≤_};
 ghost use lib.ListN.{length, take, drop};
-ghost use Rattle.wire.specs.Buffers.{over};
+ghost use Rattle.wire.specs.Buffers.{Overwrites};
 ghost use Rattle.reply.specs.Reply.{replyBytes};
 ghost use Rattle.reply.specs.Reading.{replyAnswer, replyRefusedBy, ReplyRead, sumSize, sumWrong};
 
@@ -11,6 +11,22 @@ ghost use Rattle.reply.specs.Reading.{replyAnswer, replyRefusedBy, Reply
 pub enum ReplyReading {
     Reply { status: u8, at: usize, size: usize },
     Refused(Refusal),
+}
+
+impl ReplyReading {
+    // Why it is none; number 0 where it is one.
+    pub fn refusal(self) -> Refusal
+        ensures { λ r. ⌜ r .number ≡ replyAnswer self .number ⌝ }
+    {
+        match self {
+            ReplyReading::Refused(why) => why,
+            ReplyReading::Reply {
+                status: _,
+                at: _,
+                size: _,
+            } => Refusal { number: 0 },
+        }
+    }
 }
 
 // Reads a reply; sum says whether a checksum is expected.
@@ -72,8 +88,7 @@ fn refused(number: u8) -> ReplyReading
 // Puts the head before n bytes of data that stand at place 3, and the checksum behind them if sum is set. Answers the reply's length.
 pub fn seal(reply: &mut [u8], status: usize, n: usize, sum: bool) -> usize
     requires { ⌜ (status < 256) × (n < 65536) × (n + 4 ≤ length (now reply)) ⌝ }
-    ensures { λ r. ⌜ (r ≡ length (replyBytes sum status (take n (drop 3 (now (reply .entry))))))
-        × (now (reply .exit) ≡ over (replyBytes sum status (take n (drop 3 (now (reply .entry))))) (now (reply .entry))) ⌝ }
+    ensures { λ r. ⌜ Overwrites r (replyBytes sum status (take n (drop 3 (now (reply .entry))))) (now (reply .entry)) (now (reply .exit)) ⌝ }
 {
     wire::put_byte(reply, 0, status);
     wire::put_word(reply, 1, n);

@@ -5,13 +5,15 @@ use mathlib.Core.Bool.{Bool}
 use lib.ListN.{getD, replicate, getD-replicate}
 use lib.Dec.{eqb, eqb→eq}
 use Rattle.opcode.proofs.Table.{everywhere}
+use Rattle.settings.specs.Reset.{gainsSize, mapSize}
 use Rattle.settings.specs.Reset.{resetShape, resetBlock, resetMap, resetGains}
 use Rattle.settings.specs.AfterReset.{byteAfterReset}
+use Rattle.settings.specs.Layout.{blockSize}
 
 placed : ℕ → ℕ → Bool
 placed k x = eqb x (byteAfterReset k)
 
-pub reset-bytes : (k : ℕ) → k < 1024 → getD resetBlock k 0 ≡ byteAfterReset k
+pub reset-bytes : (k : ℕ) → k < blockSize → getD resetBlock k 0 ≡ byteAfterReset k
 unfolding resetBlock resetShape byteAfterReset placed
 reset-bytes k h = eqb→eq (getD resetBlock k 0) (byteAfterReset k) (everywhere placed 0 resetBlock tt k h)
 
@@ -22,8 +24,8 @@ empty (suc n) (suc k) = empty n k
 
 pub reset-points : (k : ℕ) → getD resetMap k 0 ≡ 0
 unfolding resetMap
-reset-points k = empty 3968 k
+reset-points k = empty mapSize k
 
-pub reset-gains : (k : ℕ) → k < 6048 → getD resetGains k 0 ≡ 4096
+pub reset-gains : (k : ℕ) → k < gainsSize → getD resetGains k 0 ≡ 4096
 unfolding resetGains
-reset-gains k h = getD-replicate 6048 k 4096 0 h
+reset-gains k h = getD-replicate gainsSize k 4096 0 h

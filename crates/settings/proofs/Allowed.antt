@@ -19,6 +19,7 @@ use Rattle.opcode.specs.Allowed.{Rising}
 use Rattle.wire.proofs.Tests.{told}
 use Rattle.opcode.proofs.Accepts.Fields.{Within, All, span, least}
 use Rattle.opcode.proofs.Accepts.Lists.{words-part, length-wordsAt, rising-rise, rise-rising}
+use Rattle.settings.specs.Layout.{blockSize, enable, liveShape, lockPlace, pinCount, pinPlace, pwmCount, pwmPlace, shapeSize, smoothTable, stagedShape, uartCount, uartPlace, updatePlace}
 use Rattle.settings.specs.Layout.{modeAt, columnsAt, rowsAt}
 use Rattle.settings.specs.Allowed.{CurtainColour, ShapeCounts, ShapeAllowed, PinAllowed, PwmAllowed, UartAllowed, SettingsAllowed}
 use Rattle.settings.specs.Ranges.{right, fieldsOf, behindPort, forEach, updateMode, pictureFields, rising, shapeRight, settingsRight, InRange}
@@ -59,7 +60,7 @@ allowed-counts (ShapeCounts.counted h i j k) = (omega arith, refl)
 allowed-counts ShapeCounts.listed = (omega arith, refl)
 
 -- A shape at a place.
-shape-exactly : (b : List ℕ) (at : ℕ) → at + 193 ≤ length b → (shapeRight b at ≡ true) ↔ ShapeAllowed b at
+shape-exactly : (b : List ℕ) (at : ℕ) → at + shapeSize ≤ length b → (shapeRight b at ≡ true) ↔ ShapeAllowed b at
 unfolding shapeRight commandOf
 shape-exactly b at room =
     let columns-exactly = list-exactly 62 b (at + 5) (omega arith) in
@@ -136,15 +137,15 @@ allowed-colour (CurtainColour.colour h k) = omega arith
 all-five : (v w x y z : Bool) → (v && w && x && y && z) ≡ true → (v ≡ true) × (w ≡ true) × (x ≡ true) × (y ≡ true) × (z ≡ true)
 all-five v w x y z t = (search told, search told, search told, search told, search told)
 
-parts-allowed : (b : List ℕ) → length b ≡ 1024 → Parts b → SettingsAllowed b
+parts-allowed : (b : List ℕ) → length b ≡ blockSize → Parts b → SettingsAllowed b
 unfolding pictureFields commandOf
 parts-allowed b e p =
     let picture = right-all pictureFields (omega arith) b 0 (p .picture) in
-    let enabled = right-all (fieldsOf 0x36) (omega arith) b 201 (p .enabled) in
-    let smooth = right-all (fieldsOf 0x38) (omega arith) b 395 (p .smooth) in
+    let enabled = right-all (fieldsOf 0x36) (omega arith) b enable (p .enabled) in
+    let smooth = right-all (fieldsOf 0x38) (omega arith) b smoothTable (p .smooth) in
     let device = all-five _ _ _ _ _ (rw (device-runs b) at (p .device)) in
-    let update = right-all (updateMode ∷ []) (omega arith) b 497 (device .0) in
-    let lock = right-all (fieldsOf 0x6C) (omega arith) b 834 (device .3) in
+    let update = right-all (updateMode ∷ []) (omega arith) b updatePlace (device .0) in
+    let lock = right-all (fieldsOf 0x6C) (omega arith) b lockPlace (device .3) in
     record {
       display = omega arith;
       latency = omega arith;
@@ -153,45 +154,45 @@ parts-allowed b e p =
       splash = omega arith;
       flip = omega arith;
       freeze = omega arith;
-      staged = shape-exactly b 8 (omega arith) .0 (p .staged);
+      staged = shape-exactly b stagedShape (omega arith) .0 (p .staged);
       enable = omega arith;
-      live = shape-exactly b 202 (omega arith) .0 (p .live);
+      live = shape-exactly b liveShape (omega arith) .0 (p .live);
       smooth-columns = omega arith;
       smooth-rows = omega arith;
       update = omega arith;
-      pins = λ k h. each-allowed (behindPort 0x60) (omega arith) PinAllowed pin-exactly b 88 498 (device .1) k (omega arith);
-      pwm = λ k h. each-allowed (behindPort 0x65) (omega arith) PwmAllowed pwm-exactly b 12 762 (device .2) k (omega arith);
+      pins = λ k h. each-allowed (behindPort 0x60) (omega arith) PinAllowed pin-exactly b pinCount pinPlace (device .1) k (omega arith);
+      pwm = λ k h. each-allowed (behindPort 0x65) (omega arith) PwmAllowed pwm-exactly b pwmCount pwmPlace (device .2) k (omega arith);
       lock = omega arith;
-      uart = λ k h. each-allowed (behindPort 0x6D) (omega arith) UartAllowed uart-exactly b 3 835 (device .4) k (omega arith);
+      uart = λ k h. each-allowed (behindPort 0x6D) (omega arith) UartAllowed uart-exactly b uartCount uartPlace (device .4) k (omega arith);
     }
 
-allowed-parts : (b : List ℕ) → length b ≡ 1024 → SettingsAllowed b → Parts b
+allowed-parts : (b : List ℕ) → length b ≡ blockSize → SettingsAllowed b → Parts b
 unfolding pictureFields commandOf
 allowed-parts b e s =
     let curtain = allowed-colour (s .curtain) in
     record {
       picture = all-right pictureFields (omega arith) b 0 (omega arith);
-      staged = shape-exactly b 8 (omega arith) .1 (s .staged);
-      enabled = all-right (fieldsOf 0x36) (omega arith) b 201 (omega arith);
-      live = shape-exactly b 202 (omega arith) .1 (s .live);
-      smooth = all-right (fieldsOf 0x38) (omega arith) b 395 (omega arith);
+      staged = shape-exactly b stagedShape (omega arith) .1 (s .staged);
+      enabled = all-right (fieldsOf 0x36) (omega arith) b enable (omega arith);
+      live = shape-exactly b liveShape (omega arith) .1 (s .live);
+      smooth = all-right (fieldsOf 0x38) (omega arith) b smoothTable (omega arith);
       device =
           rw (
             device-runs b,
-            all-right (updateMode ∷ []) (omega arith) b 497 (omega arith),
-            allowed-each (behindPort 0x60) (omega arith) PinAllowed pin-exactly b 88 498 (λ k h. s .pins k (omega arith)),
-            allowed-each (behindPort 0x65) (omega arith) PwmAllowed pwm-exactly b 12 762 (λ k h. s .pwm k (omega arith)),
-            all-right (fieldsOf 0x6C) (omega arith) b 834 (omega arith),
-            allowed-each (behindPort 0x6D) (omega arith) UartAllowed uart-exactly b 3 835 (λ k h. s .uart k (omega arith)),
+            all-right (updateMode ∷ []) (omega arith) b updatePlace (omega arith),
+            allowed-each (behindPort 0x60) (omega arith) PinAllowed pin-exactly b pinCount pinPlace (λ k h. s .pins k (omega arith)),
+            allowed-each (behindPort 0x65) (omega arith) PwmAllowed pwm-exactly b pwmCount pwmPlace (λ k h. s .pwm k (omega arith)),
+            all-right (fieldsOf 0x6C) (omega arith) b lockPlace (omega arith),
+            allowed-each (behindPort 0x6D) (omega arith) UartAllowed uart-exactly b uartCount uartPlace (λ k h. s .uart k (omega arith)),
           );
     }
 
 -- The theorem.
-pub settings-exactly : (b : List ℕ) → length b ≡ 1024 → (settingsRight b ≡ true) ↔ SettingsAllowed b
+pub settings-exactly : (b : List ℕ) → length b ≡ blockSize → (settingsRight b ≡ true) ↔ SettingsAllowed b
 settings-exactly b e = (λ t. parts-allowed b e (parts b t), λ s. whole b (allowed-parts b e s))
 
 -- What the test's answer promises.
-pub in-range : (b : List ℕ) → length b ≡ 1024 → (r : Bool) → r ≡ settingsRight b → InRange b r
+pub in-range : (b : List ℕ) → length b ≡ blockSize → (r : Bool) → r ≡ settingsRight b → InRange b r
 in-range b e r t = record { test = t; exactly = rw t (settings-exactly b e) }
 
 pub reset-allowed : SettingsAllowed resetBlock

@@ -10,11 +10,12 @@ use Rattle.wire.specs.Numbers.{byteAt}
 use Rattle.opcode.specs.Options.{isRead}
 use Rattle.opcode.specs.Commands.{commandOf, fixed}
 use Rattle.opcode.specs.Allowed.{SendsNothing, ReadData, WriteData, Allowed}
+use Rattle.settings.specs.Layout.{pwmPlace, pwmSize, settingsEnd}
 use Rattle.settings.specs.Layout.{placeOf}
 
 -- A fixed command's place and sizes, for data that carries so many bytes behind the pin or port.
 record Sized (op carried : ℕ) (d : List ℕ) : Type 0 where
-  room : placeOf op d + commandOf op .back ≤ 865
+  room : placeOf op d + commandOf op .back ≤ settingsEnd
   long : commandOf op .read + carried ≡ length d
 
 nothing-sized : {op : ℕ} → SendsNothing op → commandOf op .mark ≡ fixed → Sized op 0 []
@@ -33,7 +34,7 @@ nothing-sized SendsNothing.read-39 m = omega arith
 nothing-sized SendsNothing.read-6C m = omega arith
 
 -- A PWM port up to 10 stands in its own place.
-pub own-slot : (d : List ℕ) → byteAt d 0 ≤ 10 → placeOf 0x65 d ≡ 762 + 6 * byteAt d 0
+pub own-slot : (d : List ℕ) → byteAt d 0 ≤ 10 → placeOf 0x65 d ≡ pwmPlace + pwmSize * byteAt d 0
 unfolding placeOf
 own-slot d h = rw (ne-eqb (byteAt d 0) 13 (λ e. omega arith))
 
@@ -72,7 +73,7 @@ write-sized (WriteData.apply h) m = omega arith
 write-sized (WriteData.smooth h i j k e) m = absurd (omega arith)
 write-sized (WriteData.gains h i e s) m = absurd (omega arith)
 
-pub place-fits : {op o : ℕ} {d : List ℕ} → Allowed op o d → commandOf op .mark ≡ fixed → placeOf op d + commandOf op .back ≤ 865
+pub place-fits : {op o : ℕ} {d : List ℕ} → Allowed op o d → commandOf op .mark ≡ fixed → placeOf op d + commandOf op .back ≤ settingsEnd
 place-fits (Allowed.asks h r) m = read-sized r m .room
 place-fits (Allowed.sets h w l) m = write-sized w m .room
 

@@ -13,6 +13,7 @@ use Rattle.opcode.specs.Fields.{byte, takes, number, fault}
 use Rattle.opcode.specs.Commands.{commandOf}
 use Rattle.opcode.proofs.Accepts.Fields.{span, least}
 use Rattle.settings.specs.Ranges.{right, fieldsOf, behindPort, forEach, updateMode, deviceFields}
+use Rattle.settings.specs.Layout.{lockPlace, pinCount, pinPlace, pwmCount, pwmPlace, uartCount, uartPlace, updatePlace}
 
 pub span-append : (fs gs : List Field) → span (fs ++ gs) ≡ span fs + span gs
 span-append [] gs = omega arith
@@ -34,13 +35,13 @@ five e f g h k d at = simp right-append
 
 -- The runs from place 497 on.
 pub device-runs : (d : List ℕ)
-    → right deviceFields d 497
-    ≡ (right (updateMode ∷ []) d 497 && right (forEach 88 (behindPort 0x60)) d 498 && right (forEach 12 (behindPort 0x65)) d 762
-    && right (fieldsOf 0x6C) d 834
-    && right (forEach 3 (behindPort 0x6D)) d 835)
+    → right deviceFields d updatePlace
+    ≡ (right (updateMode ∷ []) d updatePlace && right (forEach pinCount (behindPort 0x60)) d pinPlace && right (forEach pwmCount (behindPort 0x65)) d pwmPlace
+    && right (fieldsOf 0x6C) d lockPlace
+    && right (forEach uartCount (behindPort 0x6D)) d uartPlace)
 unfolding deviceFields commandOf
 device-runs d =
-    five (updateMode ∷ []) (forEach 88 (behindPort 0x60)) (forEach 12 (behindPort 0x65)) (fieldsOf 0x6C) (forEach 3 (behindPort 0x6D)) d 497
+    five (updateMode ∷ []) (forEach pinCount (behindPort 0x60)) (forEach pwmCount (behindPort 0x65)) (fieldsOf 0x6C) (forEach uartCount (behindPort 0x6D)) d updatePlace
 
 -- The place of the first fault is behind the last field exactly if each field takes its number.
 fault-step : (t r : Bool) (place at past : ℕ) → at < past → eqb place past ≡ r → eqb (cond t place at) past ≡ (t && r)

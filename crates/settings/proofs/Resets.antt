@@ -14,6 +14,7 @@ use Rattle.wire.proofs.Laws.{sets-append}
 use Rattle.wire.proofs.Tables.{length-halves, halves-append}
 use Rattle.settings.specs.Reset.{count-up, resetShape, resetBlock}
 use Rattle.settings.specs.Internal.{spreadOver}
+use Rattle.settings.specs.Layout.{blockSize, liveShape, pwmPlace, smoothTable, stagedShape}
 
 -- One number more.
 length-counted : (i n : ℕ) → length (count-up i n) ≡ n
@@ -55,10 +56,10 @@ zeros-over d (suc n) h =
     let place : 0 + 1 * n ≡ n = omega arith in
     rw (place, zeros-over d n (omega arith)) (rw (add-one n) at (fill-more n 0 d (omega arith)))
 
-over-zeros : spreadOver (spreadOver (sets (sets (replicate 1024 0) 8 resetShape) 202 resetShape) 395 1 3 2) 762 6 20 12 ≡ resetBlock
+over-zeros : spreadOver (spreadOver (sets (sets (replicate blockSize 0) stagedShape resetShape) liveShape resetShape) smoothTable 1 3 2) pwmPlace 6 20 12 ≡ resetBlock
 unfolding spreadOver resetShape resetBlock
 over-zeros = refl
 
-pub reset-over : (d : List ℕ) → length d ≡ 1024
-    → spreadOver (spreadOver (sets (sets (spreadOver d 0 1 0 1024) 8 resetShape) 202 resetShape) 395 1 3 2) 762 6 20 12 ≡ resetBlock
-reset-over d e = rw (zeros-over d 1024 (omega arith), drop-of-length-le d {i = 1024} (omega arith)) over-zeros
+pub reset-over : (d : List ℕ) → length d ≡ blockSize
+    → spreadOver (spreadOver (sets (sets (spreadOver d 0 1 0 blockSize) stagedShape resetShape) liveShape resetShape) smoothTable 1 3 2) pwmPlace 6 20 12 ≡ resetBlock
+reset-over d e = rw (zeros-over d blockSize (omega arith), drop-of-length-le d {i = blockSize} (omega arith)) over-zeros

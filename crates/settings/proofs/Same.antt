@@ -17,6 +17,7 @@ use Rattle.opcode.specs.Commands.{commandOf}
 use Rattle.wire.proofs.Tests.{and-left, and-right}
 use Rattle.opcode.proofs.Accepts.Fields.{span}
 use Rattle.settings.specs.Ranges.{right, fieldsOf, shapeRight}
+use Rattle.settings.specs.Layout.{shapeSize}
 
 -- n elements of a list, from a place on, are those of another, from a place on.
 pub record Same (a : List ℕ) (i : ℕ) (b : List ℕ) (j n : ℕ) : Type 0 where
@@ -89,7 +90,7 @@ right-same (f ∷ fs) t h =
       right-same fs (and-right (wide (f .size)) (widths fs) t) (part h (f .size) (span fs) (omega arith)),
     )
 
-pub shape-same : {a b : List ℕ} {i j : ℕ} → Same a i b j 193 → shapeRight a i ≡ shapeRight b j
+pub shape-same : {a b : List ℕ} {i j : ℕ} → Same a i b j shapeSize → shapeRight a i ≡ shapeRight b j
 unfolding shapeRight widths commandOf
 shape-same h =
     rw (

@@ -16,6 +16,7 @@ use Rattle.opcode.specs.Commands.{commandOf, fixed, flag}
 use Rattle.opcode.specs.Allowed.{WriteData, Allowed}
 use Rattle.wire.proofs.Tests.{told}
 use Rattle.opcode.proofs.Accepts.Fields.{All, all-fault, fault-all, span, least}
+use Rattle.settings.specs.Layout.{blockSize, enable, liveShape, pinCount, pwmCount, shapeSize, smoothTable, stagedShape, uartCount, updatePlace}
 use Rattle.settings.specs.Layout.{placeOf, stored}
 use Rattle.settings.specs.Ranges.{right, fieldsOf, behindPort, forEach, updateMode, pictureFields, deviceFields, shapeRight, settingsRight}
 use Rattle.settings.specs.Reset.{resetShape, resetBlock}
@@ -26,11 +27,11 @@ use Rattle.settings.proofs.Same.{widths, widths-append, front, right-sa
 -- The parts of the rule.
 pub record Parts (d : List ℕ) : Type 0 where
   pub picture : right pictureFields d 0 ≡ true
-  pub staged : shapeRight d 8 ≡ true
-  pub enabled : right (fieldsOf 0x36) d 201 ≡ true
-  pub live : shapeRight d 202 ≡ true
-  pub smooth : right (fieldsOf 0x38) d 395 ≡ true
-  pub device : right deviceFields d 497 ≡ true
+  pub staged : shapeRight d stagedShape ≡ true
+  pub enabled : right (fieldsOf 0x36) d enable ≡ true
+  pub live : shapeRight d liveShape ≡ true
+  pub smooth : right (fieldsOf 0x38) d smoothTable ≡ true
+  pub device : right deviceFields d updatePlace ≡ true
 
 pub parts : (d : List ℕ) → settingsRight d ≡ true → Parts d
 unfolding settingsRight
@@ -78,8 +79,8 @@ module _ (block s : List ℕ) (place n : ℕ) (room : place + n ≤ length block
       → right fs block at ≡ true → right fs (paste block place s n) at ≡ true
   kept fs at w h e = right-same fs w (paste-apart block s place n room long at (span fs) h) ∙ e
 
-  pub kept-shape : (shape : ℕ) → Apart shape 193 → shapeRight block shape ≡ true → shapeRight (paste block place s n) shape ≡ true
-  kept-shape shape h e = shape-same (paste-apart block s place n room long shape 193 h) ∙ e
+  pub kept-shape : (shape : ℕ) → Apart shape shapeSize → shapeRight block shape ≡ true → shapeRight (paste block place s n) shape ≡ true
+  kept-shape shape h e = shape-same (paste-apart block s place n room long shape shapeSize h) ∙ e
 
   -- Between a and b it writes what the fields between them take.
   replaced : (a fs b : List Field) (at : ℕ) → widths (a ++ (fs ++ b)) ≡ true → at + span a ≡ place → span fs ≡ n
@@ -103,19 +104,19 @@ module _ (block s : List ℕ) (place n : ℕ) (room : place + n ≤ length block
       )
 
   -- Beside both shapes and the smooth table's counts.
-  beside : Apart 8 193 × Apart 202 193 × Apart 395 2
+  beside : Apart stagedShape shapeSize × Apart liveShape shapeSize × Apart smoothTable 2
       → right pictureFields (paste block place s n) 0 ≡ true
-      → right (fieldsOf 0x36) (paste block place s n) 201 ≡ true
-      → right deviceFields (paste block place s n) 497 ≡ true
+      → right (fieldsOf 0x36) (paste block place s n) enable ≡ true
+      → right deviceFields (paste block place s n) updatePlace ≡ true
       → Parts block → Parts (paste block place s n)
   unfolding widths commandOf
   beside h picture enabled device p =
       record {
         picture = picture;
-        staged = kept-shape 8 (h .0) (p .staged);
+        staged = kept-shape stagedShape (h .0) (p .staged);
         enabled = enabled;
-        live = kept-shape 202 (h .1) (p .live);
-        smooth = kept (fieldsOf 0x38) 395 refl (h .2) (p .smooth);
+        live = kept-shape liveShape (h .1) (p .live);
+        smooth = kept (fieldsOf 0x38) smoothTable refl (h .2) (p .smooth);
         device = device;
       }
 
@@ -150,38 +151,38 @@ module _ (op : ℕ) (d block : List ℕ)
   picture-stays l fs r e h u =
       beside block (drop (commandOf op .read) d) (placeOf op d) (commandOf op .back) room long (omega arith)
       (put pictureFields l fs r 1 0 0 e refl u (p .picture))
-      (keep (fieldsOf 0x36) 201 refl (omega arith) (p .enabled))
-      (keep deviceFields 497 refl (omega arith) (p .device)) p
+      (keep (fieldsOf 0x36) enable refl (omega arith) (p .enabled))
+      (keep deviceFields updatePlace refl (omega arith) (p .device)) p
 
-  enable-stays : Put op d 201 [] (fieldsOf 0x36) 1 0 → Parts (stored op d block)
+  enable-stays : Put op d enable [] (fieldsOf 0x36) 1 0 → Parts (stored op d block)
   unfolding widths commandOf pictureFields deviceFields
   enable-stays u =
       beside block (drop (commandOf op .read) d) (placeOf op d) (commandOf op .back) room long (omega arith)
       (keep pictureFields 0 refl (omega arith) (p .picture))
-      (put (fieldsOf 0x36) [] (fieldsOf 0x36) [] 1 0 201 refl refl u (p .enabled))
-      (keep deviceFields 497 refl (omega arith) (p .device)) p
+      (put (fieldsOf 0x36) [] (fieldsOf 0x36) [] 1 0 enable refl refl u (p .enabled))
+      (keep deviceFields updatePlace refl (omega arith) (p .device)) p
 
-  device-stays : (l fs r : List Field) (m k : ℕ) → deviceFields ≡ l ++ forEach m fs ++ r → 497 ≤ placeOf op d → Put op d 497 l fs m k
+  device-stays : (l fs r : List Field) (m k : ℕ) → deviceFields ≡ l ++ forEach m fs ++ r → updatePlace ≤ placeOf op d → Put op d updatePlace l fs m k
       → Parts (stored op d block)
   unfolding widths commandOf pictureFields deviceFields
   device-stays l fs r m k e h u =
       beside block (drop (commandOf op .read) d) (placeOf op d) (commandOf op .back) room long (omega arith)
       (keep pictureFields 0 refl (omega arith) (p .picture))
-      (keep (fieldsOf 0x36) 201 refl (omega arith) (p .enabled))
-      (put deviceFields l fs r m k 497 e refl u (p .device)) p
+      (keep (fieldsOf 0x36) enable refl (omega arith) (p .enabled))
+      (put deviceFields l fs r m k updatePlace e refl u (p .device)) p
 
 -- The fields from place 497 on, in front of and behind those of a command.
 abbrev beforePwm : List Field
-beforePwm = (updateMode ∷ []) ++ forEach 88 (behindPort 0x60)
+beforePwm = (updateMode ∷ []) ++ forEach pinCount (behindPort 0x60)
 
 abbrev beforeLock : List Field
-beforeLock = beforePwm ++ forEach 12 (behindPort 0x65)
+beforeLock = beforePwm ++ forEach pwmCount (behindPort 0x65)
 
 abbrev behindPwm : List Field
-behindPwm = fieldsOf 0x6C ++ forEach 3 (behindPort 0x6D)
+behindPwm = fieldsOf 0x6C ++ forEach uartCount (behindPort 0x6D)
 
 abbrev behindPins : List Field
-behindPins = forEach 12 (behindPort 0x65) ++ behindPwm
+behindPins = forEach pwmCount (behindPort 0x65) ++ behindPwm
 
 write-stays : {op : ℕ} {d : List ℕ} → ((k : ℕ) → getD d k 0 < 256) → WriteData op d → commandOf op .mark ≡ fixed
     → (block : List ℕ) → placeOf op d + commandOf op .back ≤ length block → commandOf op .back ≤ length (drop (commandOf op .read) d)
@@ -208,18 +209,18 @@ write-stays {op} {d} bytes (WriteData.apply h) m block room long q = enable-stay
 write-stays {op} {d} bytes WriteData.update m block room long q =
     device-stays op d block room long q [] (updateMode ∷ []) (drop 1 deviceFields) 1 0 refl (omega arith) (omega arith)
 write-stays {op} {d} bytes (WriteData.pin {p} h i j k) m block room long q =
-    device-stays op d block room long q (updateMode ∷ []) (behindPort 0x60) behindPins 88 p refl (omega arith) (omega arith)
+    device-stays op d block room long q (updateMode ∷ []) (behindPort 0x60) behindPins pinCount p refl (omega arith) (omega arith)
 write-stays {op} {d} bytes (WriteData.level {p} h k) m block room long q =
     device-stays op d block room long q (updateMode ∷ []) (flag ∷ []) behindPins 264 (3 * p + 1) refl (omega arith) (omega arith)
 write-stays {op} {d} bytes (WriteData.pwm {port} h i j k l) m block room long q =
     let own = own-slot d h in
-    device-stays op d block room long q beforePwm (behindPort 0x65) behindPwm 12 port refl (omega arith) (omega arith)
+    device-stays op d block room long q beforePwm (behindPort 0x65) behindPwm pwmCount port refl (omega arith) (omega arith)
 write-stays {op} {d} bytes (WriteData.pwm-13 i j k l) m block room long q =
-    device-stays op d block room long q beforePwm (behindPort 0x65) behindPwm 12 11 refl (omega arith) (omega arith)
+    device-stays op d block room long q beforePwm (behindPort 0x65) behindPwm pwmCount 11 refl (omega arith) (omega arith)
 write-stays {op} {d} bytes (WriteData.lock h) m block room long q =
-    device-stays op d block room long q beforeLock (fieldsOf 0x6C) (forEach 3 (behindPort 0x6D)) 1 0 refl (omega arith) (omega arith)
+    device-stays op d block room long q beforeLock (fieldsOf 0x6C) (forEach uartCount (behindPort 0x6D)) 1 0 refl (omega arith) (omega arith)
 write-stays {op} {d} bytes (WriteData.uart {port} h₁ h₂ h₃ h₄ h₅ h₆ h₇ h₈ h₉ h₁₀ h₁₁) m block room long q =
-    device-stays op d block room long q (beforeLock ++ fieldsOf 0x6C) (behindPort 0x6D) [] 3 port refl (omega arith) (omega arith)
+    device-stays op d block room long q (beforeLock ++ fieldsOf 0x6C) (behindPort 0x6D) [] uartCount port refl (omega arith) (omega arith)
 write-stays bytes (WriteData.points h e) m block room long q = absurd (omega arith)
 write-stays bytes (WriteData.shape h i j k) m block room long q = absurd (omega arith)
 write-stays bytes (WriteData.lists xs ys ex ey rx ry) m block room long q = absurd (omega arith)
@@ -228,7 +229,7 @@ write-stays bytes (WriteData.gains h i e s) m block room long q = absurd (omega 
 
 -- The theorem. Elements of the data are bytes.
 pub stays : {op o : ℕ} {d : List ℕ} (block : List ℕ) → ((k : ℕ) → getD d k 0 < 256) → Allowed op o d → isRead o ≡ 0
-    → commandOf op .mark ≡ fixed → length block ≡ 1024 → settingsRight block ≡ true → settingsRight (stored op d block) ≡ true
+    → commandOf op .mark ≡ fixed → length block ≡ blockSize → settingsRight block ≡ true → settingsRight (stored op d block) ≡ true
 stays block b (Allowed.asks h r) write m e right = absurd (omega arith)
 stays {op} {o} {d} block b (Allowed.sets h w l) write m e right =
     let room : placeOf op d + commandOf op .back ≤ length block = omega (arith, place-fits (Allowed.sets h w l) m) in

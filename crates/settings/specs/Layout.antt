@@ -13,6 +13,68 @@ use Rattle.opcode.specs.Commands.{commandOf}
 abbrev pub blockSize : ℕ
 blockSize = 1024
 
+-- Rule 1.4: where the parts of the block begin, in its order; the settings in front of the first have a byte or two each.
+
+-- 35h: mode, columns, rows, 62 and then 32 list entries.
+abbrev pub stagedShape : ℕ
+stagedShape = 8
+
+abbrev pub shapeSize : ℕ
+shapeSize = 193
+
+-- 36h: enable, and then the live shape, as the staged one.
+abbrev pub enable : ℕ
+enable = 201
+
+abbrev pub liveShape : ℕ
+liveShape = 202
+
+-- 38h: columns, rows and 25 points.
+abbrev pub smoothTable : ℕ
+smoothTable = 395
+
+-- 39h.
+abbrev pub updatePlace : ℕ
+updatePlace = 497
+
+-- 60h and 61h: 88 pins of three bytes.
+abbrev pub pinPlace : ℕ
+pinPlace = 498
+
+abbrev pub pinCount : ℕ
+pinCount = 88
+
+abbrev pub pinSize : ℕ
+pinSize = 3
+
+-- 65h: twelve ports of six bytes.
+abbrev pub pwmPlace : ℕ
+pwmPlace = 762
+
+abbrev pub pwmCount : ℕ
+pwmCount = 12
+
+abbrev pub pwmSize : ℕ
+pwmSize = 6
+
+-- 6Ch.
+abbrev pub lockPlace : ℕ
+lockPlace = 834
+
+-- 6Dh: three ports of ten bytes.
+abbrev pub uartPlace : ℕ
+uartPlace = 835
+
+abbrev pub uartCount : ℕ
+uartCount = 3
+
+abbrev pub uartSize : ℕ
+uartSize = 10
+
+-- Bytes from here on have no meaning.
+abbrev pub settingsEnd : ℕ
+settingsEnd = 865
+
 -- A command's first stored byte, and the bytes from one pin's or port's to the next one's.
 pub record Place : Type 0 where
   pub opcode : ℕ
@@ -35,13 +97,13 @@ places =
     ∷ at 0x1B 5
     ∷ at 0x1C 6
     ∷ at 0x1D 7
-    ∷ at 0x36 201
-    ∷ at 0x39 497
-    ∷ eachAt 0x60 498 3
-    ∷ eachAt 0x61 499 3
-    ∷ eachAt 0x65 762 6
-    ∷ at 0x6C 834
-    ∷ eachAt 0x6D 835 10
+    ∷ at 0x36 enable
+    ∷ at 0x39 updatePlace
+    ∷ eachAt 0x60 pinPlace pinSize
+    ∷ eachAt 0x61 (pinPlace + 1) pinSize
+    ∷ eachAt 0x65 pwmPlace pwmSize
+    ∷ at 0x6C lockPlace
+    ∷ eachAt 0x6D uartPlace uartSize
     ∷ []
 
 abbrev pub placeIn : ℕ → List Place → Place
@@ -56,23 +118,6 @@ slot op port = cond (eqb op 0x65) (cond (eqb port 13) 11 port) port
 unfoldable pub placeOf : ℕ → List ℕ → ℕ
 placeOf op d = placeIn op places .first + placeIn op places .step * slot op (byteAt d 0)
 
--- Rule 1.4: places of 35h (staged), 36h (enable, then live as at 35h's) and 38h.
-abbrev pub stagedShape : ℕ
-stagedShape = 8
-
-abbrev pub enable : ℕ
-enable = 201
-
-abbrev pub liveShape : ℕ
-liveShape = 202
-
-abbrev pub smoothTable : ℕ
-smoothTable = 395
-
--- Mode, columns, rows, 62 and then 32 list entries.
-abbrev pub shapeSize : ℕ
-shapeSize = 193
-
 -- Of a shape that stands at a place.
 abbrev pub modeAt : List ℕ → ℕ → ℕ
 modeAt block shape = byteAt block shape
@@ -82,6 +127,25 @@ columnsAt block shape = wordAt block (shape + 1)
 
 abbrev pub rowsAt : List ℕ → ℕ → ℕ
 rowsAt block shape = wordAt block (shape + 3)
+
+-- Mode, columns and rows; then the two lists, how many entries each has, and the bytes of both.
+abbrev pub shapeHead : ℕ
+shapeHead = 5
+
+abbrev pub columnList : ℕ → ℕ
+columnList shape = shape + shapeHead
+
+abbrev pub rowList : ℕ → ℕ
+rowList shape = shape + 129
+
+abbrev pub columnEntries : ℕ
+columnEntries = 62
+
+abbrev pub rowEntries : ℕ
+rowEntries = 32
+
+abbrev pub listsSize : ℕ
+listsSize = 188
 
 -- Rules 1.4 and 5.1: a fixed write moves its data, without the pin or port byte that a read sends too, to its place, and leaves all
 -- other bytes. A read returns what stands there.

@@ -9,7 +9,8 @@ use lib.Dec.{eqb}
 use Rattle.opcode.specs.declared.Field.{Field}
 use Rattle.opcode.specs.Fields.{byte, takes, number, wordsAt, rise}
 use Rattle.opcode.specs.Commands.{commandOf}
-use Rattle.settings.specs.Layout.{stagedShape, enable, liveShape, smoothTable, modeAt, columnsAt, rowsAt}
+use Rattle.settings.specs.Layout.{stagedShape, enable, liveShape, smoothTable, updatePlace, pinCount, pwmCount, uartCount}
+use Rattle.settings.specs.Layout.{modeAt, columnsAt, rowsAt, columnList, rowList, columnEntries, rowEntries}
 use Rattle.settings.specs.Allowed.{SettingsAllowed}
 
 -- A command's stored fields, and those behind the pin or port byte.
@@ -33,10 +34,14 @@ pictureFields =
 abbrev pub updateMode : Field
 updateMode = byte 0 0
 
--- From place 497: update mode, 88 pins, 12 PWM ports, EEPROM lock, 3 UART ports.
+-- From 39h's place on: update mode, pins, PWM ports, EEPROM lock, UART ports.
 unfoldable pub deviceFields : List Field
 deviceFields =
-    (updateMode ∷ []) ++ forEach 88 (behindPort 0x60) ++ forEach 12 (behindPort 0x65) ++ fieldsOf 0x6C ++ forEach 3 (behindPort 0x6D)
+    (updateMode ∷ [])
+    ++ forEach pinCount (behindPort 0x60)
+    ++ forEach pwmCount (behindPort 0x65)
+    ++ fieldsOf 0x6C
+    ++ forEach uartCount (behindPort 0x6D)
 
 -- Every one of these fields, one behind the other from a place of the block on, takes its number.
 unfoldable pub right : List Field → List ℕ → ℕ → Bool
@@ -52,8 +57,8 @@ rising block place n = eqb (rise (wordsAt block place n)) n
 unfoldable pub shapeRight : List ℕ → ℕ → Bool
 shapeRight block shape =
     (right (fieldsOf 0x35) block shape
-    && (eqb (modeAt block shape) 0 || (eqb (columnsAt block shape) 62 && eqb (rowsAt block shape) 32)))
-    && (rising block (shape + 5) 62 && rising block (shape + 129) 32)
+    && (eqb (modeAt block shape) 0 || (eqb (columnsAt block shape) columnEntries && eqb (rowsAt block shape) rowEntries)))
+    && (rising block (columnList shape) columnEntries && rising block (rowList shape) rowEntries)
 
 -- Rule 4.1, 1: every stored field in its range. Bytes without a meaning are not judged.
 unfoldable pub settingsRight : List ℕ → Bool
@@ -63,7 +68,7 @@ settingsRight block =
     && right (fieldsOf 0x36) block enable
     && shapeRight block liveShape
     && right (fieldsOf 0x38) block smoothTable
-    && right deviceFields block 497
+    && right deviceFields block updatePlace
 
 -- Rule 4.1, 1: what `in_range` promises: its answer is the test's, and that is true exactly if every setting is as it may be.
 pub record InRange (block : List ℕ) (r : Bool) : Type 0 where

@@ -1,4 +1,7 @@
 // The settings block: where a command's settings stand, whether every setting lies in its range, and reset.
+pub mod layout;
+
+use layout::*;
 ghost use mathlib.Core.Path.{_≡_};
 ghost use mathlib.Core.Bool.{_&&_, _||_};
 ghost use Prim.Native.Nat.{ℕ, _+_, _*_, _≤_, _<_};
@@ -8,7 +11,8 @@ ghost use lib.Seq.{sets};
 ghost use Rattle.wire.specs.Numbers.{byteAt, wordAt};
 ghost use Rattle.wire.specs.Tables.{bytes};
 ghost use Rattle.opcode.specs.Fields.{from-to, takes};
-ghost use Rattle.settings.specs.Layout.{slot, placeOf, modeAt, columnsAt, rowsAt};
+ghost use Rattle.settings.specs.Layout.{blockSize, shapeSize, updatePlace, pinPlace, pinCount, pwmPlace, pwmCount};
+ghost use Rattle.settings.specs.Layout.{slot, placeOf, modeAt, columnsAt, rowsAt, columnEntries, rowEntries};
 ghost use Rattle.settings.specs.Allowed.{SettingsAllowed};
 ghost use Rattle.settings.specs.Ranges.{right, behindPort, forEach, pictureFields, deviceFields};
 ghost use Rattle.settings.specs.Ranges.{rising, shapeRight, InRange};
@@ -18,58 +22,59 @@ ghost use Rattle.settings.specs.Internal.{spreadOver};
 // Whether every stored setting, staged and live, lies in its range. The bytes past them are not judged. Every packet asks this, so
 // the parts are judged one after another without an early return, each joined to what those before it came to.
 pub fn in_range(block: &[u8]) -> bool
-    requires { ⌜ length (now block) ≡ 1024 ⌝ }
+    requires { ⌜ length (now block) ≡ blockSize ⌝ }
     ensures { λ r. ⌜ InRange (now (block .entry)) r ⌝ }
 {
     let fine = picture_in_range(block);
-    let fine = both(fine, shape_in_range(block, 8));
-    let fine = up_to(fine, block, 201, 1);
-    let fine = both(fine, shape_in_range(block, 202));
-    let fine = within(fine, wire::byte(block, 395), 3, 5);
-    let fine = within(fine, wire::byte(block, 396), 3, 5);
+    let fine = both(fine, shape_in_range(block, STAGED_SHAPE));
+    let fine = up_to(fine, block, ENABLE, 1);
+    let fine = both(fine, shape_in_range(block, LIVE_SHAPE));
+    let fine = within(fine, wire::byte(block, SMOOTH_TABLE), 3, 5);
+    let fine = within(fine, wire::byte(block, SMOOTH_ROWS), 3, 5);
     device_in_range(fine, block)
 }
 
 // 11h to 1Dh. Any look and any splash is right.
 fn picture_in_range(block: &[u8]) -> bool
-    requires { ⌜ length (now block) ≡ 1024 ⌝ }
+    requires { ⌜ length (now block) ≡ blockSize ⌝ }
     ensures { λ r. ⌜ r ≡ right pictureFields (now (block .entry)) 0 ⌝ }
 {
-    let fine = up_to(true, block, 0, 4);
-    let fine = up_to(fine, block, 1, 1);
+    let fine = up_to(true, block, DISPLAY, 4);
+    let fine = up_to(fine, block, LATENCY, 1);
     // Colour 0, 2-8.
-    let fine = up_to(fine, block, 4, 8);
-    let fine = both(fine, block[4] != 1);
-    let fine = up_to(fine, block, 6, 3);
-    up_to(fine, block, 7, 1)
+    let fine = up_to(fine, block, CURTAIN, 8);
+    let fine = both(fine, block[CURTAIN] != 1);
+    let fine = up_to(fine, block, FLIP, 3);
+    up_to(fine, block, FREEZE, 1)
 }
 
 // The shape rule, of the shape at a place.
 fn shape_in_range(block: &[u8], shape: usize) -> bool
-    requires { ⌜ shape + 193 ≤ length (now block) ⌝ }
+    requires { ⌜ shape + shapeSize ≤ length (now block) ⌝ }
     ensures { λ r. ⌜ r ≡ shapeRight (now (block .entry)) shape ⌝ }
 {
     let fine = within(true, wire::byte(block, shape), 0, 1);
-    let fine = within(fine, wire::word(block, shape + 1), 2, 62);
-    let fine = within(fine, wire::word(block, shape + 3), 2, 32);
+    let fine = within(fine, wire::word(block, shape + COLUMNS), 2, COLUMN_ENTRIES);
+    let fine = within(fine, wire::word(block, shape + ROWS), 2, ROW_ENTRIES);
     let fine = both(fine, counts_in_mode(block, shape));
-    let fine = list_in_range(fine, block, shape + 5, 62);
-    list_in_range(fine, block, shape + 129, 32)
+    let fine = list_in_range(fine, block, shape + COLUMN_LIST, COLUMN_ENTRIES);
+    list_in_range(fine, block, shape + ROW_LIST, ROW_ENTRIES)
 }
 
 // Rule 4.1, 1: mode 1 has the shape 62 × 32 alone.
 fn counts_in_mode(block: &[u8], shape: usize) -> bool
-    requires { ⌜ shape + 193 ≤ length (now block) ⌝ }
+    requires { ⌜ shape + shapeSize ≤ length (now block) ⌝ }
     ensures { λ r. ⌜ r ≡ (eqb (modeAt (now (block .entry)) shape) 0
-        || (eqb (columnsAt (now (block .entry)) shape) 62 && eqb (rowsAt (now (block .entry)) shape) 32)) ⌝ }
+        || (eqb (columnsAt (now (block .entry)) shape) columnEntries
+        && eqb (rowsAt (now (block .entry)) shape) rowEntries)) ⌝ }
 {
     if wire::byte(block, shape) == 0 {
         return true;
     }
-    if wire::word(block, shape + 1) != 62 {
+    if wire::word(block, shape + COLUMNS) != COLUMN_ENTRIES {
         return false;
     }
-    wire::word(block, shape + 3) == 32
+    wire::word(block, shape + ROWS) == ROW_ENTRIES
 }
 
 // Joined to what came before: so many 16-bit numbers from a place on, each above the one before it.
@@ -103,43 +108,43 @@ fn number(low: u8, high: u8) -> u16
     low as u16 + 256 * (high as u16)
 }
 
-// Update mode, pins, PWM ports, lock and UART ports, from place 497 on.
+// Update mode, pins, PWM ports, lock and UART ports, from update mode's place on.
 fn device_in_range(fine: bool, block: &[u8]) -> bool
-    requires { ⌜ length (now block) ≡ 1024 ⌝ }
-    ensures { λ r. ⌜ r ≡ (fine && right deviceFields (now (block .entry)) 497) ⌝ }
+    requires { ⌜ length (now block) ≡ blockSize ⌝ }
+    ensures { λ r. ⌜ r ≡ (fine && right deviceFields (now (block .entry)) updatePlace) ⌝ }
 {
-    let fine = up_to(fine, block, 497, 0);
+    let fine = up_to(fine, block, UPDATE_MODE, 0);
     let fine = pins_in_range(fine, block);
     let fine = pwm_in_range(fine, block);
-    let fine = up_to(fine, block, 834, 1);
-    let fine = uart_port_in_range(fine, block, 835);
-    let fine = uart_port_in_range(fine, block, 845);
-    uart_port_in_range(fine, block, 855)
+    let fine = up_to(fine, block, LOCK, 1);
+    let fine = uart_port_in_range(fine, block, UART_PORTS);
+    let fine = uart_port_in_range(fine, block, UART_PORT_1);
+    uart_port_in_range(fine, block, UART_PORT_2)
 }
 
-// 88 pins of direction, level and drain: 264 bytes, each 0 or 1.
+// Direction, level and drain of every pin, each 0 or 1.
 fn pins_in_range(fine: bool, block: &[u8]) -> bool
-    requires { ⌜ length (now block) ≡ 1024 ⌝ }
-    ensures { λ r. ⌜ r ≡ (fine && right (forEach 88 (behindPort 0x60)) (now (block .entry)) 498) ⌝ }
+    requires { ⌜ length (now block) ≡ blockSize ⌝ }
+    ensures { λ r. ⌜ r ≡ (fine && right (forEach pinCount (behindPort 0x60)) (now (block .entry)) pinPlace) ⌝ }
 {
     let mut all = fine;
     let mut i = 0;
-    while i < 264 {
-        all = up_to(all, block, 498 + i, 1);
+    while i < PIN_BYTES {
+        all = up_to(all, block, PINS + i, 1);
         i += 1;
     }
     all
 }
 
-// 12 PWM ports.
+// Every PWM port.
 fn pwm_in_range(fine: bool, block: &[u8]) -> bool
-    requires { ⌜ length (now block) ≡ 1024 ⌝ }
-    ensures { λ r. ⌜ r ≡ (fine && right (forEach 12 (behindPort 0x65)) (now (block .entry)) 762) ⌝ }
+    requires { ⌜ length (now block) ≡ blockSize ⌝ }
+    ensures { λ r. ⌜ r ≡ (fine && right (forEach pwmCount (behindPort 0x65)) (now (block .entry)) pwmPlace) ⌝ }
 {
     let mut all = fine;
     let mut i = 0;
-    while i < 12 {
-        all = pwm_port_in_range(all, block, 762 + 6 * i);
+    while i < PWM_COUNT {
+        all = pwm_port_in_range(all, block, PWM_PORTS + PWM_SIZE * i);
         i += 1;
     }
     all
@@ -205,20 +210,20 @@ pub fn place_of(opcode: usize, data: &[u8]) -> usize
 {
     let port = wire::byte(data, 0);
     match opcode {
-        0x12 => 1,
-        0x13 => 2,
-        0x1A => 4,
-        0x1B => 5,
-        0x1C => 6,
-        0x1D => 7,
-        0x36 => 201,
-        0x39 => 497,
-        0x60 => 498 + 3 * port,
-        0x61 => 499 + 3 * port,
-        0x65 => 762 + 6 * slot_of(port),
-        0x6C => 834,
-        0x6D => 835 + 10 * port,
-        _ => 0,
+        0x12 => LATENCY,
+        0x13 => LOOK,
+        0x1A => CURTAIN,
+        0x1B => SPLASH,
+        0x1C => FLIP,
+        0x1D => FREEZE,
+        0x36 => ENABLE,
+        0x39 => UPDATE_MODE,
+        0x60 => PINS + PIN_SIZE * port,
+        0x61 => LEVELS + PIN_SIZE * port,
+        0x65 => PWM_PORTS + PWM_SIZE * slot_of(port),
+        0x6C => LOCK,
+        0x6D => UART_PORTS + UART_SIZE * port,
+        _ => DISPLAY,
     }
 }
 
@@ -232,26 +237,26 @@ fn slot_of(port: usize) -> usize
 
 // The whole block as it is after reset: zeros, and over them the two shapes, the smooth table's counts and the PWM frequencies.
 pub fn reset_block(block: &mut [u8])
-    requires { ⌜ length (now block) ≡ 1024 ⌝ }
+    requires { ⌜ length (now block) ≡ blockSize ⌝ }
     ensures { λ _. ⌜ (now (block .exit) ≡ resetBlock) × SettingsAllowed (now (block .exit)) ⌝ }
 {
-    spread(block, 0, 1, 0, 1024);
-    reset_shape(block, 8);
-    reset_shape(block, 202);
-    spread(block, 395, 1, 3, 2);
-    spread(block, 762, 6, 20, 12);
+    spread(block, 0, 1, 0, BLOCK_SIZE);
+    reset_shape(block, STAGED_SHAPE);
+    reset_shape(block, LIVE_SHAPE);
+    spread(block, SMOOTH_TABLE, 1, 3, 2);
+    spread(block, PWM_PORTS, PWM_SIZE, 20, PWM_COUNT);
 }
 
 // Rule 5.10: all of a shape: mode 0, 62 columns, 32 rows, lists that count from 0.
 fn reset_shape(block: &mut [u8], shape: usize)
-    requires { ⌜ shape + 193 ≤ length (now block) ⌝ }
+    requires { ⌜ shape + shapeSize ≤ length (now block) ⌝ }
     ensures { λ _. ⌜ now (block .exit) ≡ sets (now (block .entry)) shape resetShape ⌝ }
 {
     wire::put_byte(block, shape, 0);
-    wire::put_word(block, shape + 1, 62);
-    wire::put_word(block, shape + 3, 32);
-    store_counting(block, shape + 5, 62);
-    store_counting(block, shape + 129, 32);
+    wire::put_word(block, shape + COLUMNS, COLUMN_ENTRIES);
+    wire::put_word(block, shape + ROWS, ROW_ENTRIES);
+    store_counting(block, shape + COLUMN_LIST, COLUMN_ENTRIES);
+    store_counting(block, shape + ROW_LIST, ROW_ENTRIES);
 }
 
 // Stores n 16-bit numbers from a place on: 0, 1, 2 and so on.

@@ -3,10 +3,7 @@ use packet::Reading;
 use reply::ReplyReading;
 ghost use mathlib.Core.Path.{_≡_};
 ghost use mathlib.Core.Bool.{not};
-ghost use Prim.Native.Nat.{_<_};
 ghost use lib.Dec.{eqb};
-ghost use Rattle.packet.specs.Reading.{answer};
-ghost use Rattle.reply.specs.Reading.{replyAnswer};
 ghost use Rattle.controller8.specs.Bytes.{lent, lentReset, ResetsBytes};
 ghost use Rattle.upload.specs.Planning.{sheets};
 ghost use Rattle.vermolgas.specs.Packed.{PackedRead, PackedMake, PackedReplyRead, PackedHandled, PackedPlan};
@@ -56,24 +53,9 @@ pub extern "C" fn vermolgas_read(packet: &[u8]) -> u64
         size,
     } = r
     else {
-        return read_refusal(r);
+        return r.refusal().number as u64;
     };
     256 * opcode as u64 + 65536 * options as u64 + 16777216 * at as u64 + 4294967296 * size as u64
-}
-
-// The refusal of a reading that is one.
-fn read_refusal(r: Reading) -> u64
-    ensures { λ n. ⌜ (n ≡ answer r .number) × (n < 256) ⌝ }
-{
-    match r {
-        Reading::Refused(why) => why.number as u64,
-        Reading::Command {
-            opcode: _,
-            options: _,
-            at: _,
-            size: _,
-        } => 0,
-    }
 }
 
 // Makes a packet in the buffer; of the options bits 3 to 7 count.
@@ -97,23 +79,9 @@ pub extern "C" fn vermolgas_read_reply(reply: &[u8], checksum: u8) -> u64
         size,
     } = r
     else {
-        return reply_refusal(r);
+        return r.refusal().number as u64;
     };
     256 * status as u64 + 65536 * size as u64
-}
-
-// The refusal of a reply's reading that is one.
-fn reply_refusal(r: ReplyReading) -> u64
-    ensures { λ n. ⌜ (n ≡ replyAnswer r .number) × (n < 256) ⌝ }
-{
-    match r {
-        ReplyReading::Refused(why) => why.number as u64,
-        ReplyReading::Reply {
-            status: _,
-            at: _,
-            size: _,
-        } => 0,
-    }
 }
 
 // Plans an upload: the packets, back to back in the batch, that turn held into wanted in the fewest bytes.

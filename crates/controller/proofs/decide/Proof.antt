@@ -3,7 +3,7 @@ use Prim.Native.Nat.{_+_, _≤_}
 use mathlib.Core.Path.{_≡_, sym, subst}
 use native.Mathlib.Omega.{arith}
 use lib.ListN.{length}
-use Rattle.packet.specs.Reading.{Answer, reading}
+use Rattle.packet.specs.Reading.{commandAt, Answer, reading}
 use Rattle.packet.proofs.Within.{Within, reading-within}
 use Rattle.controller.proofs.Bounds.{refusal-stands, command-placed}
 use borrow.Author.Needs.{needs}
@@ -12,13 +12,8 @@ use Rattle.controller.proofs.decide.Tie as tie
 
 -- What the pattern took apart is what reading gives, and lies within the packet.
 command : (c : tie.After-known-told)
-    → record {
-      number = 0;
-      opcode = c .before .r .given .0 .0;
-      options = c .before .r .given .0 .1 .0;
-      place = c .before .r .given .0 .1 .1 .0;
-      size = c .before .r .given .0 .1 .1 .1 .0;
-    }
+    → commandAt (c .before .r .given .0 .0) (c .before .r .given .0 .1 .0) (c .before .r .given .0 .1 .1 .0)
+    (c .before .r .given .0 .1 .1 .1 .0)
     ≡ reading (c .before .before .before .before .before .before .args .packet .now)
 command c = rw (c .before .r .given .1) at (c .before .before .before .read .ensures .outcome)
 

@@ -10,6 +10,7 @@ use Rattle.controller.proofs.Blocks.{byte-over}
 use borrow.Author.Needs.{needs}
 use Rattle.controller.proofs.fetch_shape.Statement.{statement}
 use Rattle.controller.proofs.fetch_shape.Tie as tie
+use Rattle.settings.specs.Layout.{listsSize, columnList, stagedShape}
 
 byte-requires : tie.Need-byte-requires
 byte-requires c κs = search needs
@@ -31,9 +32,9 @@ returns c =
     let at-test = at-byte .before .before in
     let args = at-test .before .before .before .before .args in
     let block = args .block .now in
-    let mode : byteAt block 8 ≡ 1 = sym (at-test .before .byte .ensures .0) ∙ at-test .if1 .taken in
-    let enough : 188 ≤ length (drop 13 block) = rw length-drop (omega arith) in
-    let written = byte-over (args .out .now) (drop 13 block) 1 188 (omega arith) enough in
+    let mode : byteAt block stagedShape ≡ 1 = sym (at-test .before .byte .ensures .0) ∙ at-test .if1 .taken in
+    let enough : listsSize ≤ length (drop (columnList stagedShape) block) = rw length-drop (omega arith) in
+    let written = byte-over (args .out .now) (drop (columnList stagedShape) block) 1 listsSize (omega arith) enough in
     rw mode (written .0, at-copy .copy .ensures ∙ rw (at-byte .put-byte .ensures) (written .1))
 
 fetch-part-requires : tie.Need-fetch-part-requires

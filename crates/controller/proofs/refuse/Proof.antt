@@ -4,8 +4,8 @@ use borrow.Author.Needs.{needs}
 use Rattle.controller.proofs.refuse.Statement.{statement}
 use Rattle.controller.proofs.refuse.Tie as tie
 
-number-of-requires : tie.Need-number-of-requires
-number-of-requires c κs = search needs
+refusal-requires : tie.Need-refusal-requires
+refusal-requires c κs = search needs
 
 cast-acknowledge : tie.Need-cast-acknowledge
 cast-acknowledge c = search needs
@@ -18,9 +18,9 @@ same-length c = search needs
 
 returns : tie.Need-returns
 returns c =
-    let n = c .before .before .before .before .number-of .ensures in
+    let n = c .before .before .before .before .refusal .ensures in
     let a = c .before .before .acknowledge .ensures in
-    rw (← n) (refl, a .0, a .1)
+    rw (← n) (refl, a)
 
 pub refuse-spec : {M : Type 1} → statement M
-refuse-spec = tie.close (tie.spec number-of-requires cast-acknowledge acknowledge-requires same-length returns)
+refuse-spec = tie.close (tie.spec refusal-requires cast-acknowledge acknowledge-requires same-length returns)

@@ -8,6 +8,9 @@ use borrow.Author.Needs.{needs}
 use Rattle.controller.proofs.runs_past.Statement.{statement}
 use Rattle.controller.proofs.runs_past.Tie as tie
 
+points-named-requires : tie.Need-points-named-requires
+points-named-requires c κs = search needs
+
 word-requires : tie.Need-word-requires
 word-requires c κs = search needs
 
@@ -20,33 +23,38 @@ mul-points c =
     let rows : c .word2 .result ≤ 65535 = omega arith in
     omega (arith, mul-le-mul columns rows)
 
-word-requires-3 : tie.Need-word-requires-3
-word-requires-3 c κs = search needs
-
-point-count-requires : tie.Need-point-count-requires
-point-count-requires c κs = search needs
-
 add-result : tie.Need-add-result
 add-result c = search needs
 
 returns : tie.Need-returns
 unfolding runsPast
 returns c =
-    let at-points = c .before .before in
+    let at-rows = c .before in
+    let at-columns = at-rows .before in
+    let at-named = at-columns .before in
     simp (
-      eq-eqb _ _ (at-points .before .before .if1 .taken),
-      ← at-points .before .word .ensures .0,
-      ← at-points .word2 .ensures .0,
-      ← c .before .word3 .ensures .0,
-      ← c .point-count .ensures .0,
+      eq-eqb _ _ (at-named .before .if1 .taken),
+      ← at-columns .word .ensures .0,
+      ← at-rows .word2 .ensures .0,
+      ← at-named .points-named .ensures .start,
+      ← at-named .points-named .ensures .count,
     )
 
-gains-end-requires : tie.Need-gains-end-requires
-gains-end-requires c κs = search needs
+gains-named-requires : tie.Need-gains-named-requires
+gains-named-requires c κs = search needs
+
+add-result-2 : tie.Need-add-result-2
+add-result-2 c = search needs
 
 returns-2 : tie.Need-returns-2
 unfolding runsPast
-returns-2 c = simp (ne-eqb _ _ (c .before .before .if1 .left), eq-eqb _ _ (c .before .if2 .taken), c .gains-end .ensures)
+returns-2 c =
+    simp (
+      ne-eqb _ _ (c .before .before .before .if1 .left),
+      eq-eqb _ _ (c .before .before .if2 .taken),
+      ← c .before .gains-named .ensures .start,
+      ← c .before .gains-named .ensures .count,
+    )
 
 returns-3 : tie.Need-returns-3
 unfolding runsPast
@@ -56,13 +64,13 @@ pub runs-past-spec : {M : Type 1} → statement M
 runs-past-spec =
     tie.close
     (tie.spec
+    points-named-requires
     word-requires
     word-requires-2
     mul-points
-    word-requires-3
-    point-count-requires
     add-result
     returns
-    gains-end-requires
+    gains-named-requires
+    add-result-2
     returns-2
     returns-3)

@@ -9,6 +9,7 @@ use Rattle.controller.proofs.Blocks.{sets-paste, shape-applied}
 use borrow.Author.Needs.{needs}
 use Rattle.controller.proofs.store_apply.Statement.{statement}
 use Rattle.controller.proofs.store_apply.Tie as tie
+use Rattle.settings.specs.Layout.{enable}
 
 byte-requires : tie.Need-byte-requires
 byte-requires c κs = search needs
@@ -45,7 +46,7 @@ returns-2 c =
     let at-test = at-byte .before .before in
     let at-start = at-test .before .before .before .before in
     rw (← at-test .before .byte .ensures .0, ne-eqb _ _ (at-test .if1 .left), at-byte .put-byte2 .ensures)
-    (sets-paste (at-start .args .block .now) 201 (0 ∷ []) (omega arith))
+    (sets-paste (at-start .args .block .now) enable (0 ∷ []) (omega arith))
 
 pub store-apply-spec : {M : Type 1} → statement M
 store-apply-spec =

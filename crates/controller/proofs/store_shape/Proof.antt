@@ -9,15 +9,17 @@ use Rattle.controller.proofs.Blocks.{lists-stored}
 use borrow.Author.Needs.{needs}
 use Rattle.controller.proofs.store_shape.Statement.{statement}
 use Rattle.controller.proofs.store_shape.Tie as tie
+use Rattle.settings.specs.Layout.{listsSize, shapeHead}
+use Prim.Native.Nat.{_+_}
 
 -- The size that goes with the mode.
 mode : (c : tie.Then1) → byteAt (c .before .before .before .before .args .«data» .now) 0 ≡ 1
 mode c = sym (c .before .byte .ensures .0) ∙ c .if1 .taken
 
-long : (c : tie.Then1) → length (c .before .before .before .before .args .«data» .now) ≡ 189
+long : (c : tie.Then1) → length (c .before .before .before .before .args .«data» .now) ≡ 1 + listsSize
 long c = rw (mode c) at (c .before .before .before .before .pre .1)
 
-short : (c : tie.Else1) → length (c .before .before .before .before .args .«data» .now) ≡ 5
+short : (c : tie.Else1) → length (c .before .before .before .before .args .«data» .now) ≡ shapeHead
 short c = rw (← c .before .byte .ensures .0, ne-eqb _ _ (c .if1 .left)) at (c .before .before .before .before .pre .1)
 
 byte-requires : tie.Need-byte-requires

@@ -28,8 +28,15 @@ part-data-end c = omega (arith, within (c .before .before .before .before .befor
 answer-read-requires : tie.Need-answer-read-requires
 answer-read-requires c κs =
     let at-start = c .before .before .before .before .before .before .before .before .before .before .before .before in
-    let l = lent _ _ (at-start .pre .0) in
-    (granted _ _ _ (at-start .pre .0) _ _ _ _ (at-start .pre .1), c .before .before .before .before .if1 .taken, omega (arith, l), omega (arith, l), l .room)
+    let l = lent _ _ (at-start .pre .0) in (
+      record {
+        granted = granted _ _ _ (at-start .pre .0) _ _ _ _ (at-start .pre .1);
+        reads = c .before .before .before .before .if1 .taken;
+        staged-long = omega (arith, l);
+        gains-long = omega (arith, l);
+      },
+      l .room,
+    )
 
 same-length : tie.Need-same-length
 same-length c = search needs
@@ -54,7 +61,13 @@ store-requires : tie.Need-store-requires
 store-requires c κs =
     let at-start = c .before .before .before .before .before .before .before .before .before .before .before .before in
     let l = lent _ _ (at-start .pre .0) in
-    (granted _ _ _ (at-start .pre .0) _ _ _ _ (at-start .pre .1), omega (arith, c .before .before .before .before .if1 .left), omega (arith, l), omega (arith, l), omega (arith, l))
+    record {
+      granted = granted _ _ _ (at-start .pre .0) _ _ _ _ (at-start .pre .1);
+      writes = omega (arith, c .before .before .before .before .if1 .left);
+      staged-long = omega (arith, l);
+      live-long = omega (arith, l);
+      gains-long = omega (arith, l);
+    }
 
 acknowledge-requires : tie.Need-acknowledge-requires
 acknowledge-requires c κs = omega (arith, lent _ _ (c .before .before .before .before .before .before .before .before .before .before .before .before .before .before .before .before .before .before .before .before .before .before .pre .0) .room)

@@ -11,12 +11,12 @@ apply-requires c κs = search needs
 store-points-requires : tie.Need-store-points-requires
 store-points-requires c κs =
     let pre = c .before .before .before .before .before .before .before .before .before .before .before .pre in
-    (writes-points _ _ _ _ (pre .0) (pre .1), pre .2)
+    (writes-points _ _ _ _ (pre .granted) (pre .writes), pre .staged-long)
 
 store-gains-requires : tie.Need-store-gains-requires
 store-gains-requires c κs =
     let pre = c .before .before .before .before .before .before .before .before .before .before .before .before .before .before .before .pre in
-    (writes-gains _ _ _ _ (pre .0) (pre .1), pre .4)
+    (writes-gains _ _ _ _ (pre .granted) (pre .writes), pre .gains-long)
 
 store-requires : tie.Need-store-requires
 store-requires c κs = search needs

@@ -5,18 +5,20 @@ use native.Mathlib.Omega.{arith}
 use mathlib.Core.List.{[]}
 use lib.ListN.{length}
 use Rattle.reply.proofs.Laws.{lent-on}
+use Rattle.controller.specs.State.{dataRoom}
 use Rattle.controller.proofs.ReadBack.{back-fits}
 use Rattle.controller8.specs.Bytes.{lent, stateIn}
 use borrow.Author.Needs.{needs}
 use Rattle.controller8.proofs.answer_read.Statement.{statement}
 use Rattle.controller8.proofs.answer_read.Tie as tie
 
-fits : (c : tie.After-fetch) → c .fetch .result ≤ 508
+fits : (c : tie.After-fetch) → c .fetch .result ≤ dataRoom
 fits c =
     let start = c .before .before .before .before .before .before .before in
     let args = start .args in
+    let granted = start .pre .0 .granted in
     rw (c .fetch .ensures .0)
-    (back-fits (args .opcode) (args .options) (args .«data» .now) (stateIn (lent (args .block .now) (args .staged .now) [] (args .gains .now))) (start .pre .1) (start .pre .0 .judged) (start .pre .0 .fits) (start .pre .0 .settings))
+    (back-fits (args .opcode) (args .options) (args .«data» .now) (stateIn (lent (args .block .now) (args .staged .now) [] (args .gains .now))) (start .pre .0 .reads) (granted .judged) (granted .fits) (granted .settings))
 
 sub-fetch : tie.Need-sub-fetch
 sub-fetch c = search needs

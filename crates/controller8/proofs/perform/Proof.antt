@@ -33,8 +33,15 @@ part-data-end c = omega (arith, within (c .before .before .before .before .befor
 answer-read-requires : tie.Need-answer-read-requires
 answer-read-requires c κs =
     let at-start = c .before .before .before .before .before .before .before .before .before .before .before .before in
-    let size = sizes at-start in
-    (granted _ _ _ (at-start .pre .1) _ _ _ _ (at-start .pre .2), c .before .before .before .before .if1 .taken, size .staged, size .gains, lent-right _ _ (at-start .pre .1) .room)
+    let size = sizes at-start in (
+      record {
+        granted = granted _ _ _ (at-start .pre .1) _ _ _ _ (at-start .pre .2);
+        reads = c .before .before .before .before .if1 .taken;
+        staged-long = size .staged;
+        gains-long = size .gains;
+      },
+      lent-right _ _ (at-start .pre .1) .room,
+    )
 
 same-length : tie.Need-same-length
 same-length c = search needs
@@ -62,7 +69,13 @@ store-requires : tie.Need-store-requires
 store-requires c κs =
     let at-start = c .before .before .before .before .before .before .before .before .before .before .before .before in
     let size = sizes at-start in
-    (granted _ _ _ (at-start .pre .1) _ _ _ _ (at-start .pre .2), omega (arith, c .before .before .before .before .if1 .left), size .staged, size .live, size .gains)
+    record {
+      granted = granted _ _ _ (at-start .pre .1) _ _ _ _ (at-start .pre .2);
+      writes = omega (arith, c .before .before .before .before .if1 .left);
+      staged-long = size .staged;
+      live-long = size .live;
+      gains-long = size .gains;
+    }
 
 acknowledge-requires : tie.Need-acknowledge-requires
 acknowledge-requires c κs = omega (arith, lent-right _ _ (c .before .before .before .before .before .before .before .before .before .before .before .before .before .before .before .before .before .before .before .before .before .before .pre .1) .room)

@@ -3,6 +3,7 @@ use mathlib.Core.Path.{_≡_, sym, _∙_}
 use native.Mathlib.Omega.{arith}
 use borrow.Author.Tests.{eq-eqb, ne-eqb}
 use Rattle.opcode.proofs.Below.{carried-below}
+use Rattle.packet.specs.Reading.{commandAt}
 use Rattle.packet.specs.Internal.{framed}
 use Rattle.packet.proofs.Frames.{broken-read, stands, judged-read}
 use Rattle.packet.proofs.Promises.{read-promised}
@@ -12,13 +13,8 @@ use Rattle.packet.proofs.read.Tie as tie
 
 -- The frame that the pattern took apart is the packet's.
 sound : (c : tie.After-frame)
-    → record {
-      number = 0;
-      opcode = c .frame .given .0 .0;
-      options = c .frame .given .0 .1 .0;
-      place = c .frame .given .0 .1 .1 .0;
-      size = c .frame .given .0 .1 .1 .1 .0;
-    }
+    → commandAt (c .frame .given .0 .0) (c .frame .given .0 .1 .0) (c .frame .given .0 .1 .1 .0)
+    (c .frame .given .0 .1 .1 .1 .0)
     ≡ framed (c .before .before .before .before .args .packet .now)
 sound c = rw (c .frame .given .1) at (c .before .before .frame-of .ensures)
 

@@ -1,5 +1,5 @@
 -- The parts of the fields from place 497 on, in their order.
-use Prim.Native.Nat.{ℕ, _+_}
+use Prim.Native.Nat.{ℕ, _+_, _*_}
 use mathlib.Core.Path.{_≡_, sym}
 use mathlib.Core.Bool.{Bool, true, _&&_, and-true, and-assoc}
 use mathlib.Core.List.{List}
@@ -13,6 +13,7 @@ use Rattle.settings.proofs.Laws.{right-append, right-byte, device-runs}
 use borrow.Author.Needs.{needs}
 use Rattle.settings.proofs.device_in_range.Statement.{statement}
 use Rattle.settings.proofs.device_in_range.Tie as tie
+use Rattle.settings.specs.Layout.{lockPlace, pinCount, pinPlace, pwmCount, pwmPlace, uartPlace, uartSize, updatePlace}
 
 three : (fs : List Field) (d : List ℕ) (at : ℕ)
     → right (forEach 3 fs) d at ≡ (right fs d at && (right fs d (at + span fs) && (right fs d (at + span fs + span fs) && true)))
@@ -24,19 +25,19 @@ joined : (fine e f g h k l m : Bool)
 joined fine e f g h k l m = simp (and-assoc, and-true)
 
 parts : (d : List ℕ) (fine : Bool)
-    → (fine && right deviceFields d 497)
-    ≡ (fine && leb (byteAt d 497) (updateMode .high) && right (forEach 88 (behindPort 0x60)) d 498 && right (forEach 12 (behindPort 0x65)) d 762
-    && leb (byteAt d 834) 1 && right (behindPort 0x6D) d 835 && right (behindPort 0x6D) d 845 && right (behindPort 0x6D) d 855)
+    → (fine && right deviceFields d updatePlace)
+    ≡ (fine && leb (byteAt d updatePlace) (updateMode .high) && right (forEach pinCount (behindPort 0x60)) d pinPlace && right (forEach pwmCount (behindPort 0x65)) d pwmPlace
+    && leb (byteAt d lockPlace) 1 && right (behindPort 0x6D) d uartPlace && right (behindPort 0x6D) d 845 && right (behindPort 0x6D) d (uartPlace + 2 * uartSize))
 unfolding commandOf
 parts d fine =
     rw (
       device-runs d,
-      three (behindPort 0x6D) d 835,
-      right-byte (updateMode .high) d 497,
-      right-byte 1 d 834,
+      three (behindPort 0x6D) d uartPlace,
+      right-byte (updateMode .high) d updatePlace,
+      right-byte 1 d lockPlace,
     )
-    (joined fine (leb (byteAt d 497) (updateMode .high)) (right (forEach 88 (behindPort 0x60)) d 498) (right (forEach 12 (behindPort 0x65)) d 762)
-    (leb (byteAt d 834) 1) (right (behindPort 0x6D) d 835) (right (behindPort 0x6D) d 845) (right (behindPort 0x6D) d 855))
+    (joined fine (leb (byteAt d updatePlace) (updateMode .high)) (right (forEach pinCount (behindPort 0x60)) d pinPlace) (right (forEach pwmCount (behindPort 0x65)) d pwmPlace)
+    (leb (byteAt d lockPlace) 1) (right (behindPort 0x6D) d uartPlace) (right (behindPort 0x6D) d (uartPlace + uartSize)) (right (behindPort 0x6D) d (uartPlace + 2 * uartSize)))
 
 up-to-requires : tie.Need-up-to-requires
 up-to-requires c κs = search needs

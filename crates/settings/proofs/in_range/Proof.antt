@@ -1,5 +1,5 @@
 -- The six parts of the test, in its order.
-use Prim.Native.Nat.{ℕ}
+use Prim.Native.Nat.{ℕ, _+_}
 use mathlib.Core.Path.{_≡_, sym}
 use mathlib.Core.Bool.{_&&_, and-true, and-assoc}
 use mathlib.Core.List.{List}
@@ -13,18 +13,19 @@ use Rattle.settings.proofs.Allowed.{in-range}
 use borrow.Author.Needs.{needs}
 use Rattle.settings.proofs.in_range.Statement.{statement}
 use Rattle.settings.proofs.in_range.Tie as tie
+use Rattle.settings.specs.Layout.{enable, liveShape, smoothTable, stagedShape, updatePlace}
 
-smooth : (d : List ℕ) → right (fieldsOf 0x38) d 395 ≡ (takes (from-to 1 3 5) (byteAt d 395) && takes (from-to 1 3 5) (byteAt d 396))
+smooth : (d : List ℕ) → right (fieldsOf 0x38) d smoothTable ≡ (takes (from-to 1 3 5) (byteAt d smoothTable) && takes (from-to 1 3 5) (byteAt d (smoothTable + 1)))
 unfolding right commandOf
 smooth d = rw and-true
 
 parts : (d : List ℕ)
     → settingsRight d
-    ≡ (right pictureFields d 0 && shapeRight d 8 && leb (byteAt d 201) 1 && shapeRight d 202 && takes (from-to 1 3 5) (byteAt d 395)
-    && takes (from-to 1 3 5) (byteAt d 396)
-    && right deviceFields d 497)
+    ≡ (right pictureFields d 0 && shapeRight d stagedShape && leb (byteAt d enable) 1 && shapeRight d liveShape && takes (from-to 1 3 5) (byteAt d smoothTable)
+    && takes (from-to 1 3 5) (byteAt d (smoothTable + 1))
+    && right deviceFields d updatePlace)
 unfolding settingsRight commandOf
-parts d = rw (right-byte 1 d 201, smooth d) (simp and-assoc)
+parts d = rw (right-byte 1 d enable, smooth d) (simp and-assoc)
 
 picture-in-range-requires : tie.Need-picture-in-range-requires
 picture-in-range-requires c κs = search needs

@@ -9,15 +9,16 @@ use Rattle.settings.specs.Ranges.{right, behindPort, forEach}
 use Rattle.settings.proofs.Laws.{right-byte, each-turn, each-done}
 use Rattle.settings.proofs.pins_in_range.Statement.{statement}
 use Rattle.settings.proofs.pins_in_range.Tie as tie
+use Rattle.settings.specs.Layout.{pinCount, pinPlace}
 
-pins : forEach 88 (behindPort 0x60) ≡ forEach 264 (flag ∷ [])
+pins : forEach pinCount (behindPort 0x60) ≡ forEach 264 (flag ∷ [])
 unfolding commandOf
 pins = refl
 
 abbrev Inv-loop : tie.InvT-loop
 Inv-loop fine block all₀ i₀ all i =
     (i ≤ 264)
-    × ((fine && right (forEach 264 (flag ∷ [])) block 498) ≡ (all && right (forEach (264 - i) (flag ∷ [])) block (498 + i)))
+    × ((fine && right (forEach 264 (flag ∷ [])) block pinPlace) ≡ (all && right (forEach (264 - i) (flag ∷ [])) block (pinPlace + i)))
 
 abbrev μ-loop : tie.MeasureT-loop
 μ-loop fine block all₀ i₀ all i = 264 - i
@@ -42,16 +43,16 @@ loop-again c =
     let at-loop = c .before .before in
     let block = at-loop .before .before .args .block .now in
     let i = at-loop .loop .i in
-    let next : 498 + i + 1 ≡ 498 + (i + 1) = omega arith in
-    let turn = each-turn (flag ∷ []) block (at-loop .loop .all) i 264 (498 + i) (omega arith) in
-    (omega arith, rw (c .up-to .ensures, ← right-byte 1 block (498 + i), ← next) (at-loop .loop .inv .1 ∙ turn))
+    let next : pinPlace + i + 1 ≡ pinPlace + (i + 1) = omega arith in
+    let turn = each-turn (flag ∷ []) block (at-loop .loop .all) i 264 (pinPlace + i) (omega arith) in
+    (omega arith, rw (c .up-to .ensures, ← right-byte 1 block (pinPlace + i), ← next) (at-loop .loop .inv .1 ∙ turn))
 
 returns : tie.Need-returns Inv-loop μ-loop
 returns c =
     let at-loop = c .before in
     let block = at-loop .before .before .args .block .now in
     let i = at-loop .loop .i in
-    rw pins (sym (at-loop .loop .inv .1 ∙ each-done (flag ∷ []) block (at-loop .loop .all) i 264 (498 + i) (omega arith)))
+    rw pins (sym (at-loop .loop .inv .1 ∙ each-done (flag ∷ []) block (at-loop .loop .all) i 264 (pinPlace + i) (omega arith)))
 
 pub pins-in-range-spec : {M : Type 1} → statement M
 pins-in-range-spec =

@@ -8,11 +8,12 @@ use Rattle.settings.specs.Ranges.{right, behindPort, forEach}
 use Rattle.settings.proofs.Laws.{each-turn, each-done}
 use Rattle.settings.proofs.pwm_in_range.Statement.{statement}
 use Rattle.settings.proofs.pwm_in_range.Tie as tie
+use Rattle.settings.specs.Layout.{pwmCount, pwmPlace, pwmSize}
 
 abbrev Inv-loop : tie.InvT-loop
 Inv-loop fine block all₀ i₀ all i =
     (i ≤ 12)
-    × ((fine && right (forEach 12 (behindPort 0x65)) block 762) ≡ (all && right (forEach (12 - i) (behindPort 0x65)) block (762 + 6 * i)))
+    × ((fine && right (forEach pwmCount (behindPort 0x65)) block pwmPlace) ≡ (all && right (forEach (pwmCount - i) (behindPort 0x65)) block (pwmPlace + pwmSize * i)))
 
 abbrev μ-loop : tie.MeasureT-loop
 μ-loop fine block all₀ i₀ all i = 12 - i
@@ -41,8 +42,8 @@ loop-again c =
     let at-loop = c .before .before in
     let block = at-loop .before .before .args .block .now in
     let i = at-loop .loop .i in
-    let next : 762 + 6 * i + 6 ≡ 762 + 6 * (i + 1) = omega arith in
-    let turn = each-turn (behindPort 0x65) block (at-loop .loop .all) i 12 (762 + 6 * i) (omega arith) in
+    let next : pwmPlace + pwmSize * i + 6 ≡ pwmPlace + 6 * (i + 1) = omega arith in
+    let turn = each-turn (behindPort 0x65) block (at-loop .loop .all) i pwmCount (pwmPlace + pwmSize * i) (omega arith) in
     (omega arith, rw (c .pwm-port-in-range .ensures, ← next) (at-loop .loop .inv .1 ∙ turn))
 
 returns : tie.Need-returns Inv-loop μ-loop
@@ -50,7 +51,7 @@ returns c =
     let at-loop = c .before in
     let block = at-loop .before .before .args .block .now in
     let i = at-loop .loop .i in
-    sym (at-loop .loop .inv .1 ∙ each-done (behindPort 0x65) block (at-loop .loop .all) i 12 (762 + 6 * i) (omega arith))
+    sym (at-loop .loop .inv .1 ∙ each-done (behindPort 0x65) block (at-loop .loop .all) i pwmCount (pwmPlace + pwmSize * i) (omega arith))
 
 pub pwm-in-range-spec : {M : Type 1} → statement M
 pwm-in-range-spec =

@@ -3,7 +3,7 @@ use Prim.Native.Nat.{_≤_}
 use mathlib.Core.Path.{_≡_, sym, ap, _∙_, subst}
 use native.Mathlib.Omega.{arith}
 use borrow.Author.Needs.{needs}
-use Rattle.packet.specs.Reading.{Answer, reading}
+use Rattle.packet.specs.Reading.{commandAt, Answer, reading}
 use Rattle.packet.proofs.Within.{Within, reading-within}
 use Rattle.vermolgas.proofs.Packs.{read-packed}
 use Rattle.vermolgas.proofs.vermolgas_read.Statement.{statement}
@@ -11,13 +11,8 @@ use Rattle.vermolgas.proofs.vermolgas_read.Tie as tie
 
 -- What the pattern took apart is what reading gives.
 command : (c : tie.After-known-told)
-    → record {
-      number = 0;
-      opcode = c .before .r .given .0 .0;
-      options = c .before .r .given .0 .1 .0;
-      place = c .before .r .given .0 .1 .1 .0;
-      size = c .before .r .given .0 .1 .1 .1 .0;
-    }
+    → commandAt (c .before .r .given .0 .0) (c .before .r .given .0 .1 .0) (c .before .r .given .0 .1 .1 .0)
+    (c .before .r .given .0 .1 .1 .1 .0)
     ≡ reading (c .before .before .before .before .before .args .packet .now)
 command c = rw (c .before .r .given .1) at (c .before .before .before .read .ensures .outcome)
 
@@ -36,15 +31,15 @@ enum-known-r c = search needs
 enum-told : tie.Need-enum-told
 enum-told c = search needs
 
-read-refusal-requires : tie.Need-read-refusal-requires
-read-refusal-requires c κs = search needs
+refusal-requires : tie.Need-refusal-requires
+refusal-requires c κs = search needs
 
 returns : tie.Need-returns
 returns c =
-    let told = c .before in
+    let told = c .before .before in
     let refused = rw (told .enum-told .given .1) at (told .before .before .read .ensures) in
-    let number = rw (told .enum-told .given .1) at (c .read-refusal .ensures .0) in
-    read-packed _ _ _ (omega (arith, number)) (omega (arith, number, c .read-refusal .ensures .1)) (omega arith) (omega arith) (omega arith) refused
+    let number = rw (told .enum-told .given .1) at (c .before .refusal .ensures) in
+    read-packed _ _ _ (omega (arith, number)) (omega (arith, number)) (omega arith) (omega arith) (omega arith) refused
 
 cast-result : tie.Need-cast-result
 cast-result c = search needs
@@ -54,6 +49,9 @@ mul-result c = search needs
 
 cast-result-2 : tie.Need-cast-result-2
 cast-result-2 c = search needs
+
+cast-result-3 : tie.Need-cast-result-3
+cast-result-3 c = search needs
 
 mul-result-2 : tie.Need-mul-result-2
 mul-result-2 c = search needs
@@ -85,11 +83,12 @@ vermolgas-read-spec =
     read-requires
     enum-known-r
     enum-told
-    read-refusal-requires
-    returns
+    refusal-requires
     cast-result
-    mul-result
+    returns
     cast-result-2
+    mul-result
+    cast-result-3
     mul-result-2
     add-result
     mul-result-3

@@ -31,18 +31,21 @@ enum-known-r c = search needs
 enum-told : tie.Need-enum-told
 enum-told c = search needs
 
-reply-refusal-requires : tie.Need-reply-refusal-requires
-reply-refusal-requires c κs = search needs
+refusal-requires : tie.Need-refusal-requires
+refusal-requires c κs = search needs
 
 returns : tie.Need-returns
 returns c =
-    let told = c .before in
+    let told = c .before .before in
     let refused = rw (told .enum-told .given .1) at (told .before .before .read-reply .ensures) in
-    let number = rw (told .enum-told .given .1) at (c .reply-refusal .ensures .0) in
-    reply-refused _ _ _ (c .reply-refusal .ensures .1) (rw (← number) at refused)
+    let number = rw (told .enum-told .given .1) at (c .before .refusal .ensures) in
+    reply-refused _ _ _ (omega arith) (rw (← number) at refused)
 
 cast-result : tie.Need-cast-result
 cast-result c = search needs
+
+cast-result-2 : tie.Need-cast-result-2
+cast-result-2 c = search needs
 
 mul-result : tie.Need-mul-result
 mul-result c = search needs
@@ -65,9 +68,10 @@ vermolgas-read-reply-spec =
     read-reply-requires
     enum-known-r
     enum-told
-    reply-refusal-requires
-    returns
+    refusal-requires
     cast-result
+    returns
+    cast-result-2
     mul-result
     mul-result-2
     add-result
