@@ -1,5 +1,5 @@
--- What a packet changes: nothing, unless it is an accepted write. Such a write copies into the block at most once, ends where the settings
--- end and writes beside the live shape; one that applies copies twice.
+-- What a packet changes: nothing, unless it is an accepted write. Such a write copies into the block at most once, inside the bytes that its
+-- command owns; one that applies copies twice.
 use Prim.Native.Nat.{ℕ, _+_, _*_, _-_, _≤_, min}
 use mathlib.Core.Path.{_≡_, refl, _∙_}
 use mathlib.Core.Bool.{Bool, true, false, cond, and-false}
@@ -9,23 +9,25 @@ use native.Mathlib.Omega.{arith}
 use borrow.Author.Tests.{eq-eqb, ne-eqb}
 use lib.ListN.{length, drop, length-append, length-drop}
 use lib.Seq.{paste, length-paste}
+use lib.Dec.{eqb}
 use Rattle.wire.specs.First.{first}
 use Rattle.wire.specs.Numbers.{byteAt}
 use Rattle.opcode.specs.Options.{optionsIn, isRead}
-use Rattle.opcode.specs.Commands.{commandOf, fixed}
+use Rattle.opcode.specs.Commands.{commandOf}
 use Rattle.opcode.specs.Judgement.{judgement}
 use Rattle.opcode.specs.Allowed.{WriteData, Allowed}
 use Rattle.wire.proofs.Tests.{first-silent}
 use Rattle.opcode.proofs.Accepts.Commands.{of-carried}
 use Rattle.opcode.proofs.Accepts.Writes.{silent-write, silent-length}
 use Rattle.packet.specs.Frame.{headerOf, opcodeOf, place, dataSize, dataOf}
-use Rattle.settings.specs.Layout.{blockSize, enable, liveShape, settingsEnd, shapeSize, smoothTable, stagedShape, listsSize}
+use Rattle.settings.specs.Layout.{blockSize, enable, liveShape, settingsEnd, shapeSize, smoothTable, stagedShape, listsSize, updatePlace}
 use Rattle.settings.specs.Layout.{placeOf, placeIn, places, slot}
 use Rattle.settings.proofs.Fits.{place-fits, write-long}
 use Rattle.controller.specs.State.{State, stopped}
 use Rattle.controller.specs.Commands.{shapeBytes, writeShape, applyBlock, writeSmooth, blockAfter, written}
 use Rattle.controller.specs.Step.{readAndPlaced, decision, numberOf, step}
 use Rattle.controller.proofs.Bounds.{Commanded, commanded, write-data}
+use Rattle.controller.proofs.Reach.{Other, Kind, kindOf, other-after}
 use Rattle.controller.proofs.Sizes.{smooth-size, fixed-rest}
 use Rattle.controller.proofs.Demands.{Running, lent}
 
@@ -66,8 +68,18 @@ way p s reply =
 
 -- ---- The block.
 
--- A copy of n elements into the block: it ends where the settings end, and lies beside the live shape.
-pub record Copy (from : List ℕ) (to n : ℕ) : Type 0 where
+-- The bytes of the block that a command owns, from its opcode and data alone: no packet of another command writes there, but that 61h has the
+-- middle byte of 60h's three.
+abbrev pub ownFirst : ℕ → List ℕ → ℕ
+ownFirst op d = cond (eqb op 0x35) stagedShape (cond (eqb op 0x36) enable (cond (eqb op 0x38) smoothTable (placeOf op d)))
+
+abbrev pub ownEnd : ℕ → List ℕ → ℕ
+ownEnd op d = cond (eqb op 0x35) enable (cond (eqb op 0x36) smoothTable (cond (eqb op 0x38) updatePlace (placeOf op d + commandOf op .back)))
+
+-- A copy of n elements into the block: inside the bytes that the command owns, and so it ends where the settings end; and beside the live shape.
+pub record Copy (op : ℕ) (d from : List ℕ) (to n : ℕ) : Type 0 where
+  pub owned-from : ownFirst op d ≤ to
+  pub owned-to : to + n ≤ ownEnd op d
   pub ends : to + n ≤ settingsEnd
   pub beside : min (smoothTable - to) (to + n - liveShape) ≡ 0
   pub long : n ≤ length from
@@ -84,10 +96,12 @@ applied-long block l =
     let long = enabled-long block l in
     length-paste (enabled block) liveShape (drop stagedShape block) shapeSize (omega arith) (rw length-drop (omega arith)) ∙ long
 
-pub data Change (op : ℕ) (d block after : List ℕ) : Type 0 where
-  none : after ≡ block → Change op d block after
-  copied : (from : List ℕ) (to n : ℕ) → Copy from to n → after ≡ paste block to from n → Change op d block after
-  applied : op ≡ 0x36 → byteAt d 0 ≡ 1 → after ≡ paste (enabled block) liveShape (drop stagedShape block) shapeSize → Change op d block after
+-- What a write does to the block, whatever the block: nothing, one copy at a place that depends on opcode and data alone, or apply's two.
+pub data Change (op : ℕ) (d : List ℕ) : Type 0 where
+  none : ((block : List ℕ) → blockAfter op d block ≡ block) → Change op d
+  copied : (from : List ℕ) (to n : ℕ) → Copy op d from to n → ((block : List ℕ) → blockAfter op d block ≡ paste block to from n) → Change op d
+  applied : op ≡ 0x36 → byteAt d 0 ≡ 1 → ((block : List ℕ) → blockAfter op d block ≡ paste (enabled block) liveShape (drop stagedShape block) shapeSize)
+      → Change op d
 
 -- Computed for every command: its place lies behind the live shape; or it has one place alone, before it.
 abbrev Aside : ℕ → Type 0
@@ -122,57 +136,50 @@ module _ (op o : ℕ) (d : List ℕ) (h : isRead o ≡ 0) (e : first (judgement 
   unfolding judgement commandOf
   aside = of-carried Aside (omega arith) op (first-silent (judgement op o d) (omega arith) e .0)
 
-  fixed-copy : commandOf op .mark ≡ fixed → Copy (drop (commandOf op .read) d) (placeOf op d) (commandOf op .back)
+  other-copy : Other op → Copy op d (drop (commandOf op .read) d) (placeOf op d) (commandOf op .back)
   unfolding placeOf
-  fixed-copy m =
+  other-copy k =
+      let m = fixed-rest op o d e (k .not-gains) (k .not-points) (k .not-shape) (k .not-smooth) in
+      let own-first : ownFirst op d ≡ placeOf op d = rw (ne-eqb op 0x35 (k .not-shape), ne-eqb op 0x36 (k .not-apply), ne-eqb op 0x38 (k .not-smooth)) in
+      let own-end : ownEnd op d ≡ placeOf op d + commandOf op .back =
+      rw (ne-eqb op 0x35 (k .not-shape), ne-eqb op 0x36 (k .not-apply), ne-eqb op 0x38 (k .not-smooth)) in
       record {
+        owned-from = omega arith;
+        owned-to = omega arith;
         ends = place-fits write-allowed m;
         beside = aside-place (placeIn op places .first) (placeIn op places .step) (slot op (byteAt d 0)) (commandOf op .back) aside;
         long = rw length-drop (omega (arith, write-long write-allowed h m));
       }
 
-shape-copy : {d : List ℕ} → WriteData 0x35 d → Copy (shapeBytes d) stagedShape (length (shapeBytes d))
+shape-copy : {d : List ℕ} → WriteData 0x35 d → Copy 0x35 d (shapeBytes d) stagedShape (length (shapeBytes d))
 unfolding shapeBytes
 shape-copy (WriteData.shape h i j k) = omega arith
 shape-copy (WriteData.lists xs ys ex ey rx ry) =
     let long : length (xs ++ ys) ≡ listsSize = rw length-append (omega arith) in omega arith
 
-smooth-copy : {d : List ℕ} → WriteData 0x38 d → Copy d smoothTable (length d)
+smooth-copy : {d : List ℕ} → WriteData 0x38 d → Copy 0x38 d d smoothTable (length d)
 smooth-copy w = let long = smooth-size w in omega arith
 
--- What a write that is accepted leaves of the block.
-pub changed : (op o : ℕ) (d block : List ℕ) → isRead o ≡ 0 → first (judgement op o d) ≡ 0 → Change op d block (blockAfter op d block)
+-- A write that is accepted.
+pub changed : (op o : ℕ) (d : List ℕ) → isRead o ≡ 0 → first (judgement op o d) ≡ 0 → Change op d
 unfolding blockAfter writeShape applyBlock writeSmooth
-changed op o d block h e =
-    elim (ℕ-discrete op 0x2B) [
-      | yes g ↦ Change.none (rw g)
-      | no g ↦
-          elim (ℕ-discrete op 0x34) [
-            | yes m ↦ Change.none (rw m)
-            | no m ↦
-                elim (ℕ-discrete op 0x35) [
-                  | yes c ↦ Change.copied (shapeBytes d) stagedShape (length (shapeBytes d)) (shape-copy (write-data 0x35 o d h (rw c at e))) (rw c)
-                  | no c ↦
-                      elim (ℕ-discrete op 0x36) [
-                        | yes a ↦
-                            elim (ℕ-discrete (byteAt d 0) 1) [
-                              | yes v ↦ Change.applied a v (rw (a, v))
-                              | no v ↦ Change.copied (0 ∷ []) enable 1 (omega arith) (rw (a, ne-eqb (byteAt d 0) 1 v))
-                            ]
-                        | no a ↦
-                            elim (ℕ-discrete op 0x38) [
-                              | yes t ↦ Change.copied d smoothTable (length d) (smooth-copy (write-data 0x38 o d h (rw t at e))) (rw t)
-                              | no t ↦
-                                  Change.copied (drop (commandOf op .read) d) (placeOf op d) (commandOf op .back)
-                                  (fixed-copy op o d h e (fixed-rest op o d e g m c t))
-                                  (rw (ne-eqb op 0x2B g, ne-eqb op 0x34 m, ne-eqb op 0x35 c, ne-eqb op 0x36 a, ne-eqb op 0x38 t))
-                            ]
-                      ]
-                ]
-          ]
-    ]
+changed op o d h e = go (kindOf op)
+  where
+    go : Kind op → Change op d
+    go (Kind.gains k) = Change.none (λ block. rw k)
+    go (Kind.points k) = Change.none (λ block. rw k)
+    go (Kind.shape k) =
+        rw k (Change.copied (shapeBytes d) stagedShape (length (shapeBytes d)) (shape-copy (write-data 0x35 o d h (rw k at e))) (λ block. refl))
+    go (Kind.apply k) =
+        elim (ℕ-discrete (byteAt d 0) 1) [
+          | yes v ↦ Change.applied k v (λ block. rw (k, v))
+          | no v ↦ rw k (Change.copied (0 ∷ []) enable 1 (omega arith) (λ block. rw (ne-eqb (byteAt d 0) 1 v)))
+        ]
+    go (Kind.smooth k) = rw k (Change.copied d smoothTable (length d) (smooth-copy (write-data 0x38 o d h (rw k at e))) (λ block. refl))
+    go (Kind.other k) =
+        Change.copied (drop (commandOf op .read) d) (placeOf op d) (commandOf op .back) (other-copy op o d h e k) (λ block. other-after op d block k)
 
-pub changed-long : {op : ℕ} {d block after : List ℕ} → Change op d block after → length block ≡ blockSize → length after ≡ blockSize
-changed-long (Change.none e) l = rw e l
-changed-long {op} {d} {block} (Change.copied from to n c e) l = rw (e, length-paste block to from n (omega arith) (c .long)) l
-changed-long {op} {d} {block} (Change.applied a v e) l = rw e (applied-long block l)
+pub changed-long : {op : ℕ} {d : List ℕ} → Change op d → (block : List ℕ) → length block ≡ blockSize → length (blockAfter op d block) ≡ blockSize
+changed-long (Change.none e) block l = rw (e block) l
+changed-long (Change.copied from to n c e) block l = rw (e block, length-paste block to from n (omega arith) (c .long)) l
+changed-long (Change.applied a v e) block l = rw (e block) (applied-long block l)

@@ -2,6 +2,7 @@
 -- others; a table keeps its length, since what is written lies within it.
 use Prim.Native.Nat.{ℕ, _+_, _*_, _-_, _≤_, _<_, min}
 use mathlib.Core.Path.{_≡_, refl, _∙_}
+use mathlib.Core.Logic.{inl, inr}
 use mathlib.Core.Bool.{true, false}
 use mathlib.Core.List.{List, [], _∷_, _++_}
 use native.Mathlib.Decide.{ℕ-discrete}
@@ -29,7 +30,7 @@ use Rattle.settings.specs.Layout.{blockSize, enable, liveShape, shapeSize, smoo
 use Rattle.settings.specs.Layout.{placeOf, stored}
 use Rattle.settings.specs.Ranges.{right, fieldsOf, pictureFields, deviceFields, rising, shapeRight, settingsRight}
 use Rattle.settings.proofs.Same.{Same, front, widths, right-same, words-same, shape-same, paste-there, paste-apart}
-use Rattle.settings.proofs.Stays.{Parts, parts, whole, kept, kept-shape, all-right, stays}
+use Rattle.settings.proofs.Stays.{parts, whole, all-right, Framed, frame, stays}
 use Rattle.controller.specs.State.{State, replyRoom}
 use Rattle.controller.specs.Commands.{gainsWords, gainsInto, writeGains, shapeBytes, writeShape, applyBlock, applyLive, writeSmooth, blockAfter, written, runsPast, third}
 use Rattle.controller.specs.Step.{numberOf, replyTo, step}
@@ -37,45 +38,17 @@ use Rattle.controller.specs.Internal.{PointsWrite, GainsWrite}
 use Rattle.controller.specs.Demands.{LentRight}
 use Rattle.controller.proofs.Demands.{Running, running-right, right-running}
 use Rattle.controller.proofs.Bounds.{write-data, points-write, gains-write}
+use Rattle.controller.proofs.Reach.{Kind, kindOf, other-after}
 use Rattle.controller.proofs.Sizes.{smooth-size, fixed-rest}
 use Rattle.controller.proofs.Changes.{Way, way, changed, changed-long, enabled, enabled-long, write-allowed}
 use Rattle.settings.specs.Reset.{gainsSize, mapSize}
 
 -- ---- Settings.
 
--- A copy between the picture's settings and the device's: the parts that it may change, and those that it lies apart from.
-module _ (block from : List ℕ) (to n : ℕ) (room : to + n ≤ length block) (long : n ≤ length from) (q : Parts block) where
-  between : stagedShape ≤ to → to + n ≤ updatePlace
-      → shapeRight (paste block to from n) stagedShape ≡ true
-      → right (fieldsOf 0x36) (paste block to from n) enable ≡ true
-      → shapeRight (paste block to from n) liveShape ≡ true
-      → right (fieldsOf 0x38) (paste block to from n) smoothTable ≡ true
-      → settingsRight (paste block to from n) ≡ true
-  unfolding widths commandOf pictureFields deviceFields
-  between low high staged enabled live smooth =
-      whole (paste block to from n)
-      (record {
-        picture = kept block from to n room long pictureFields 0 refl (omega arith) (q .picture);
-        staged = staged;
-        enabled = enabled;
-        live = live;
-        smooth = smooth;
-        device = kept block from to n room long deviceFields updatePlace refl (omega arith) (q .device);
-      })
-
-  staged-kept : enable ≤ to → shapeRight (paste block to from n) stagedShape ≡ true
-  staged-kept h = kept-shape block from to n room long stagedShape (omega arith) (q .staged)
-
-  enabled-kept : min (liveShape - to) (to + n - enable) ≡ 0 → right (fieldsOf 0x36) (paste block to from n) enable ≡ true
-  unfolding widths commandOf
-  enabled-kept h = kept block from to n room long (fieldsOf 0x36) enable refl h (q .enabled)
-
-  live-kept : min (smoothTable - to) (to + n - liveShape) ≡ 0 → shapeRight (paste block to from n) liveShape ≡ true
-  live-kept h = kept-shape block from to n room long liveShape h (q .live)
-
-  smooth-kept : to + n ≤ smoothTable → right (fieldsOf 0x38) (paste block to from n) smoothTable ≡ true
-  unfolding widths commandOf
-  smooth-kept h = kept block from to n room long (fieldsOf 0x38) smoothTable refl (omega arith) (q .smooth)
+-- A copy into a block in range, framed by the parts of the rule that it lies apart from.
+stay : (block from : List ℕ) (to n : ℕ) → to + n ≤ length block → n ≤ length from → settingsRight block ≡ true
+    → Framed to n (paste block to from n) → settingsRight (paste block to from n) ≡ true
+stay block from to n room long e f = whole (paste block to from n) (frame block from to n room long (parts block e) f)
 
 -- 35h in mode 1: 62 columns, 32 rows, and lists that rise.
 rises : (ws : List ℕ) (s : List ℕ) (n : ℕ) → ws ≡ words s → length s ≡ 2 * n → Rising (words s) → rise ws ≡ n
@@ -116,10 +89,15 @@ counts-right block c₀ c₁ r₀ r₁ l old new =
 shape-put : (block from : List ℕ) (n : ℕ) → n ≤ shapeSize → n ≤ length from → length block ≡ blockSize → settingsRight block ≡ true
     → shapeRight (paste block stagedShape from n) stagedShape ≡ true → settingsRight (paste block stagedShape from n) ≡ true
 shape-put block from n small long l e new =
-    let room : stagedShape + n ≤ length block = omega arith in
-    let q = parts block e in
-    between block from stagedShape n room long q (omega arith) (omega arith) new (enabled-kept block from stagedShape n room long q (omega arith))
-    (live-kept block from stagedShape n room long q (omega arith)) (smooth-kept block from stagedShape n room long q (omega arith))
+    stay block from stagedShape n (omega arith) long e
+    (record {
+      picture = inl (omega arith);
+      staged = inr new;
+      enabled = inl (omega arith);
+      live = inl (omega arith);
+      smooth = inl (omega arith);
+      device = inl (omega arith);
+    })
 
 shape-stays : {d : List ℕ} (block : List ℕ) → WriteData 0x35 d → length block ≡ blockSize → settingsRight block ≡ true
     → settingsRight (writeShape d block) ≡ true
@@ -146,11 +124,15 @@ smooth-stays {d} block w l e =
     let new = smooth-right w in
     let room : smoothTable + length d ≤ length block = omega arith in
     let long : length d ≤ length d = omega arith in
-    let q = parts block e in
-    between block d smoothTable (length d) room long q (omega arith) (omega arith) (staged-kept block d smoothTable (length d) room long q (omega arith))
-    (enabled-kept block d smoothTable (length d) room long q (omega arith))
-    (live-kept block d smoothTable (length d) room long q (omega arith))
-    (right-same (fieldsOf 0x38) refl (front (paste-there block d smoothTable (length d) room long) 2 (new .0)) ∙ new .1)
+    stay block d smoothTable (length d) room long e
+    (record {
+      picture = inl (omega arith);
+      staged = inl (omega arith);
+      enabled = inl (omega arith);
+      live = inl (omega arith);
+      smooth = inr (right-same (fieldsOf 0x38) refl (front (paste-there block d smoothTable (length d) room long) 2 (new .0)) ∙ new .1);
+      device = inl (omega arith);
+    })
 
 -- 36h: enable as the fixed writes; and the staged shape, in range, stands in the live one's place.
 enable-put : {d : List ℕ} → WriteData 0x36 d → (block : List ℕ) → settingsRight (stored 0x36 d block) ≡ true
@@ -176,13 +158,18 @@ module _ (o : ℕ) (d block : List ℕ) (bytes : (k : ℕ) → getD d k 0 < 256)
       let all = enabled-long block l in
       let room : liveShape + shapeSize ≤ length (enabled block) = omega arith in
       let long : shapeSize ≤ length (drop stagedShape block) = rw length-drop (omega arith) in
-      let q = parts (enabled block) f in
-      let staged : Same (drop stagedShape block) 0 block stagedShape shapeSize = record { each = λ k lt. let z : 0 + k ≡ k = omega arith in rw z (getD-drop stagedShape block k 0) } in
-      between (enabled block) (drop stagedShape block) liveShape shapeSize room long q (omega arith) (omega arith)
-      (staged-kept (enabled block) (drop stagedShape block) liveShape shapeSize room long q (omega arith))
-      (enabled-kept (enabled block) (drop stagedShape block) liveShape shapeSize room long q (omega arith))
-      (shape-same (paste-there (enabled block) (drop stagedShape block) liveShape shapeSize room long) ∙ shape-same staged ∙ parts block e .staged)
-      (smooth-kept (enabled block) (drop stagedShape block) liveShape shapeSize room long q (omega arith))
+      let staged : Same (drop stagedShape block) 0 block stagedShape shapeSize =
+      record { each = λ k lt. let z : 0 + k ≡ k = omega arith in rw z (getD-drop stagedShape block k 0) } in
+      let new = shape-same (paste-there (enabled block) (drop stagedShape block) liveShape shapeSize room long) ∙ shape-same staged ∙ parts block e .staged in
+      stay (enabled block) (drop stagedShape block) liveShape shapeSize room long f
+      (record {
+        picture = inl (omega arith);
+        staged = inl (omega arith);
+        enabled = inl (omega arith);
+        live = inr new;
+        smooth = inl (omega arith);
+        device = inl (omega arith);
+      })
 
   apply-stays : settingsRight (applyBlock d block) ≡ true
   unfolding applyBlock
@@ -197,29 +184,17 @@ module _ (o : ℕ) (d block : List ℕ) (bytes : (k : ℕ) → getD d k 0 < 256)
 settings-stay : (op o : ℕ) (d block : List ℕ) → ((k : ℕ) → getD d k 0 < 256) → isRead o ≡ 0 → first (judgement op o d) ≡ 0
     → length block ≡ blockSize → settingsRight block ≡ true → settingsRight (blockAfter op d block) ≡ true
 unfolding blockAfter
-settings-stay op o d block bytes h j l e =
-    elim (ℕ-discrete op 0x2B) [
-      | yes g ↦ rw g e
-      | no g ↦
-          elim (ℕ-discrete op 0x34) [
-            | yes m ↦ rw m e
-            | no m ↦
-                elim (ℕ-discrete op 0x35) [
-                  | yes c ↦ rw c (shape-stays block (write-data 0x35 o d h (rw c at j)) l e)
-                  | no c ↦
-                      elim (ℕ-discrete op 0x36) [
-                        | yes a ↦ rw a (apply-stays o d block bytes h (rw a at j) l e)
-                        | no a ↦
-                            elim (ℕ-discrete op 0x38) [
-                              | yes t ↦ rw t (smooth-stays block (write-data 0x38 o d h (rw t at j)) l e)
-                              | no t ↦
-                                  rw (ne-eqb op 0x2B g, ne-eqb op 0x34 m, ne-eqb op 0x35 c, ne-eqb op 0x36 a, ne-eqb op 0x38 t)
-                                  (stays block bytes (write-allowed op o d h j) h (fixed-rest op o d j g m c t) l e)
-                            ]
-                      ]
-                ]
-          ]
-    ]
+settings-stay op o d block bytes h j l e = go (kindOf op)
+  where
+    go : Kind op → settingsRight (blockAfter op d block) ≡ true
+    go (Kind.gains k) = rw k e
+    go (Kind.points k) = rw k e
+    go (Kind.shape k) = rw k (shape-stays block (write-data 0x35 o d h (rw k at j)) l e)
+    go (Kind.apply k) = rw k (apply-stays o d block bytes h (rw k at j) l e)
+    go (Kind.smooth k) = rw k (smooth-stays block (write-data 0x38 o d h (rw k at j)) l e)
+    go (Kind.other k) =
+        rw (other-after op d block k)
+        (stays block bytes (write-allowed op o d h j) h (fixed-rest op o d j (k .not-gains) (k .not-points) (k .not-shape) (k .not-smooth)) l e)
 
 -- ---- Tables.
 
@@ -264,7 +239,7 @@ written-lent op o d s reply reply′ bytes h j past room l =
     let t = l .tables in
     record {
       tables = record {
-        block = changed-long (changed op o d (s .block) h j) (t .block);
+        block = changed-long (changed op o d h j) (s .block) (t .block);
         staged =
             elim (ℕ-discrete op 0x34) [
               | yes m ↦ rw m (points-long d (s .staged) (points-write o d (s .block) h (rw m at j) (rw m at past) (l .settings)) (t .staged))

@@ -8,7 +8,7 @@ use lib.Seq.{paste, drop-paste, drop-drop}
 use Rattle.opcode.specs.Options.{optionsIn}
 use Rattle.packet.specs.Frame.{headerOf, opcodeOf, dataOf}
 use Rattle.controller.specs.State.{State}
-use Rattle.controller.specs.Commands.{written}
+use Rattle.controller.specs.Commands.{blockAfter, written}
 use Rattle.controller.specs.Step.{step}
 use Rattle.controller.proofs.Changes.{Way, way, Change, changed, enabled, enabled-long}
 use Rattle.settings.specs.Layout.{blockSize, enable, liveShape, settingsEnd, shapeSize, stagedShape}
@@ -22,13 +22,14 @@ behind-paste d at s n i h hd hs =
     rw here at
     (sym (drop-drop more (at + n) (paste d at s n)) ∙ ap (drop more) there ∙ drop-drop more (at + n) d)
 
-tail-changed : {op : ℕ} {d block after : List ℕ} → Change op d block after → length block ≡ blockSize → drop settingsEnd after ≡ drop settingsEnd block
-tail-changed (Change.none e) l = rw e
-tail-changed {op} {d} {block} (Change.copied from to n c e) l =
-    rw e (behind-paste block to from n settingsEnd (c .ends) (omega arith) (c .long))
-tail-changed {op} {d} {block} (Change.applied a v e) l =
+tail-changed : {op : ℕ} {d : List ℕ} → Change op d → (block : List ℕ) → length block ≡ blockSize
+    → drop settingsEnd (blockAfter op d block) ≡ drop settingsEnd block
+tail-changed (Change.none e) block l = rw (e block)
+tail-changed (Change.copied from to n c e) block l =
+    rw (e block) (behind-paste block to from n settingsEnd (c .ends) (omega arith) (c .long))
+tail-changed (Change.applied a v e) block l =
     let long = enabled-long block l in
-    rw e
+    rw (e block)
     (behind-paste (enabled block) liveShape (drop stagedShape block) shapeSize settingsEnd (omega arith) (omega arith) (rw length-drop (omega arith))
     ∙ behind-paste block enable (1 ∷ []) 1 settingsEnd (omega arith) (omega arith) (omega arith))
 
@@ -40,4 +41,4 @@ tail-kept p s reply = go (way p s reply)
     go (Way.same e) = rw e
     go (Way.wrote st r a e) =
         rw e
-        (tail-changed (changed (opcodeOf p) (optionsIn (headerOf p)) (dataOf p) (s .block) (omega arith) (a .command .judged)) (a .lent .tables .block))
+        (tail-changed (changed (opcodeOf p) (optionsIn (headerOf p)) (dataOf p) (omega arith) (a .command .judged)) (s .block) (a .lent .tables .block))

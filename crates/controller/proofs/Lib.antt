@@ -2,6 +2,7 @@
 -- here and for the entries above. Then the theorems over any packets: every reply reads back, bytes without a meaning and the live side are kept, and a state
 -- in range stays in range.
 pub mod Bounds
+pub mod Reach
 pub mod Sizes
 pub mod Replies
 pub mod Blocks

@@ -2,20 +2,18 @@
 -- list of others.
 use Prim.Native.Nat.{ℕ, _+_, _≤_, _<_}
 use mathlib.Core.Path.{_≡_, refl, sym, _∙_}
-use mathlib.Core.Bool.{cond}
 use mathlib.Core.List.{List}
 use native.Mathlib.Decide.{ℕ-discrete}
 use native.Mathlib.Omega.{arith}
 use borrow.Author.Tests.{eq-eqb, ne-eqb}
 use lib.ListN.{length, take, drop, length-take, length-drop}
 use lib.Seq.{ext-getD, getD-take, getD-drop, paste, length-paste}
-use lib.Dec.{eqb}
 use Rattle.wire.specs.Numbers.{byteAt}
 use Rattle.opcode.specs.Options.{optionsIn}
 use Rattle.packet.specs.Frame.{headerOf, opcodeOf, dataOf}
 use Rattle.settings.proofs.Same.{Same, paste-apart}
 use Rattle.controller.specs.State.{State}
-use Rattle.controller.specs.Commands.{written, applyLive}
+use Rattle.controller.specs.Commands.{blockAfter, liveAfter, written, applyLive}
 use Rattle.controller.specs.Step.{step}
 use Rattle.controller.specs.Demands.{Applies, LiveKept}
 use Rattle.controller.specs.Calls.{Call, stateAfterAll, NoneApplies}
@@ -33,16 +31,16 @@ same-part {a} {b} {i} {j} {n} h la lb =
     getD-take n (drop i a) k 0 inside ∙ getD-drop i a k 0 ∙ h .each k inside ∙ sym (getD-drop j b k 0)
     ∙ sym (getD-take n (drop j b) k 0 inside))
 
-shape-changed : {op : ℕ} {d block after : List ℕ} → (op ≡ 0x36 → byteAt d 0 ≡ 1 → ⊥) → Change op d block after → length block ≡ blockSize
-    → take shapeSize (drop liveShape block) ≡ take shapeSize (drop liveShape after)
-shape-changed other (Change.none e) l = rw e
-shape-changed {op} {d} {block} other (Change.copied from to n c e) l =
+shape-changed : {op : ℕ} {d : List ℕ} → (op ≡ 0x36 → byteAt d 0 ≡ 1 → ⊥) → Change op d → (block : List ℕ) → length block ≡ blockSize
+    → take shapeSize (drop liveShape block) ≡ take shapeSize (drop liveShape (blockAfter op d block))
+shape-changed other (Change.none e) block l = rw (e block)
+shape-changed other (Change.copied from to n c e) block l =
     let room : to + n ≤ length block = omega arith in
     let long : length (paste block to from n) ≡ length block = length-paste block to from n room (c .long) in
-    rw e (sym (same-part (paste-apart block from to n room (c .long) liveShape shapeSize (c .beside)) (omega arith) (omega arith)))
-shape-changed other (Change.applied a v e) l = absurd (other a v)
+    rw (e block) (sym (same-part (paste-apart block from to n room (c .long) liveShape shapeSize (c .beside)) (omega arith) (omega arith)))
+shape-changed other (Change.applied a v e) block l = absurd (other a v)
 
-live-written : (op : ℕ) (d staged live : List ℕ) → (op ≡ 0x36 → byteAt d 0 ≡ 1 → ⊥) → live ≡ cond (eqb op 0x36) (applyLive d staged live) live
+live-written : (op : ℕ) (d staged live : List ℕ) → (op ≡ 0x36 → byteAt d 0 ≡ 1 → ⊥) → live ≡ liveAfter op d staged live
 unfolding applyLive
 live-written op d staged live other =
     elim (ℕ-discrete op 0x36) [
@@ -63,7 +61,7 @@ one-kept p s reply other = go (way p s reply)
           points-kept = live-written (opcodeOf p) (dataOf p) (s .staged) (s .live) not-applied;
           settings-kept =
               shape-changed not-applied
-              (changed (opcodeOf p) (optionsIn (headerOf p)) (dataOf p) (s .block) (omega arith) (a .command .judged)) (a .lent .tables .block);
+              (changed (opcodeOf p) (optionsIn (headerOf p)) (dataOf p) (omega arith) (a .command .judged)) (s .block) (a .lent .tables .block);
         })
 
 chain : {s t u : State} → LiveKept s t → LiveKept t u → LiveKept s u

@@ -23,13 +23,14 @@ use Rattle.reply.specs.Reply.{replyBytes}
 use Rattle.reply.specs.Reading.{sumSize}
 use Rattle.reply.proofs.Laws.{length-reply}
 use Rattle.reply.proofs.ReadsBack.{reads-back}
-use Rattle.settings.specs.Layout.{stagedShape, smoothTable, modeAt, placeOf, listsSize, shapeHead, columnList}
+use Rattle.settings.specs.Layout.{returned, stagedShape, smoothTable, modeAt, placeOf, listsSize, shapeHead, columnList}
 use Rattle.settings.specs.Ranges.{settingsRight}
 use Rattle.controller.specs.State.{State, stopped, dataRoom, replyRoom}
 use Rattle.controller.specs.Commands.{readGains, readPoints, readShape, readSmooth, blockBack, dataBack, runsPast}
 use Rattle.controller.specs.Step.{reads, numberOf, answers, replyData, replyTo, step}
 use Rattle.controller.specs.Demands.{Asks, Replied}
 use Rattle.controller.proofs.Bounds.{counts, gains-read, points-read, placed-number}
+use Rattle.controller.proofs.Reach.{Kind, kindOf, other-back}
 use Rattle.controller.proofs.Sizes.{back-small}
 use Rattle.controller.proofs.Changes.{passed}
 
@@ -63,25 +64,18 @@ smooth-small block right =
 pub back-fits : (op o : ℕ) (d : List ℕ) (s : State) → isRead o ≡ 1 → first (judgement op o d) ≡ 0 → runsPast op (eqb (isRead o) 1) d (s .block) ≡ false
     → settingsRight (s .block) ≡ true → length (dataBack op d s) ≤ dataRoom
 unfolding dataBack blockBack
-back-fits op o d s h e past right =
-    elim (ℕ-discrete op 0x2B) [
-      | yes g ↦ rw g (gains-small d (s .gains) (gains-read o d (s .block) h (rw g at e) (rw g at past) .few))
-      | no g ↦
-          elim (ℕ-discrete op 0x34) [
-            | yes m ↦ rw m (points-small d (s .staged) (points-read o d (s .block) h (rw m at e) (rw m at past) right .few))
-            | no m ↦
-                elim (ℕ-discrete op 0x35) [
-                  | yes c ↦ rw c (shape-small (s .block))
-                  | no c ↦
-                      elim (ℕ-discrete op 0x38) [
-                        | yes t ↦ rw t (smooth-small (s .block) right)
-                        | no t ↦
-                            rw (ne-eqb op 0x2B g, ne-eqb op 0x34 m, ne-eqb op 0x35 c, ne-eqb op 0x38 t)
-                            (part-small (commandOf op .back) (drop (placeOf op d) (s .block)) dataRoom (omega (arith, back-small op)))
-                      ]
-                ]
-          ]
-    ]
+back-fits op o d s h e past right = go (kindOf op)
+  where
+    stored-small : length (returned op d (s .block)) ≤ dataRoom
+    stored-small = part-small (commandOf op .back) (drop (placeOf op d) (s .block)) dataRoom (omega (arith, back-small op))
+
+    go : Kind op → length (dataBack op d s) ≤ dataRoom
+    go (Kind.gains k) = rw k (gains-small d (s .gains) (gains-read o d (s .block) h (rw k at e) (rw k at past) .few))
+    go (Kind.points k) = rw k (points-small d (s .staged) (points-read o d (s .block) h (rw k at e) (rw k at past) right .few))
+    go (Kind.shape k) = rw k (shape-small (s .block))
+    go (Kind.apply k) = rw k (rw k at stored-small)
+    go (Kind.smooth k) = rw k (smooth-small (s .block) right)
+    go (Kind.other k) = rw (other-back op d s k) stored-small
 
 -- ---- The reply.
 

@@ -2,6 +2,7 @@
 -- same fields take, and no test of the others looks at what it writes.
 use Prim.Native.Nat.{ℕ, zero, suc, _+_, _*_, _-_, _≤_, _<_, min}
 use mathlib.Core.Path.{_≡_, refl, sym, _∙_}
+use mathlib.Core.Logic.{_⊎_, inl, inr, ⊎-elim}
 use mathlib.Core.Bool.{true}
 use mathlib.Core.List.{List, [], _∷_, _++_, append-assoc}
 use native.Mathlib.Nat.{suc-mul}
@@ -16,7 +17,7 @@ use Rattle.opcode.specs.Commands.{commandOf, fixed, flag}
 use Rattle.opcode.specs.Allowed.{WriteData, Allowed}
 use Rattle.wire.proofs.Tests.{told}
 use Rattle.opcode.proofs.Accepts.Fields.{All, all-fault, fault-all, span, least}
-use Rattle.settings.specs.Layout.{blockSize, enable, liveShape, pinCount, pwmCount, shapeSize, smoothTable, stagedShape, uartCount, updatePlace}
+use Rattle.settings.specs.Layout.{settingsEnd, blockSize, enable, liveShape, pinCount, pwmCount, shapeSize, smoothTable, stagedShape, uartCount, updatePlace}
 use Rattle.settings.specs.Layout.{placeOf, stored}
 use Rattle.settings.specs.Ranges.{right, fieldsOf, behindPort, forEach, updateMode, pictureFields, deviceFields, shapeRight, settingsRight}
 use Rattle.settings.specs.Reset.{resetShape, resetBlock}
@@ -69,17 +70,26 @@ pub right-all : (fs : List Field) → 0 < least fs → (d : List ℕ) (at : ℕ)
 right-all fs h d at e =
     fault-all fs h d at (omega (arith, eqb-true (fault fs d at) (at + span fs) (fault-right fs h d at ∙ e)))
 
+-- m bytes from a place on lie before the n that are written, or behind them.
+abbrev pub Apart : ℕ → ℕ → ℕ → ℕ → Type 0
+Apart place n at m = min (at + m - place) (place + n - at) ≡ 0
+
+-- Part by part of the rule: a copy lies apart from it, or its test holds of the block that the copy leaves.
+pub record Framed (place n : ℕ) (after : List ℕ) : Type 0 where
+  pub picture : Apart place n 0 stagedShape ⊎ (right pictureFields after 0 ≡ true)
+  pub staged : Apart place n stagedShape shapeSize ⊎ (shapeRight after stagedShape ≡ true)
+  pub enabled : Apart place n enable 1 ⊎ (right (fieldsOf 0x36) after enable ≡ true)
+  pub live : Apart place n liveShape shapeSize ⊎ (shapeRight after liveShape ≡ true)
+  pub smooth : Apart place n smoothTable 2 ⊎ (right (fieldsOf 0x38) after smoothTable ≡ true)
+  pub device : Apart place n updatePlace (settingsEnd - updatePlace) ⊎ (right deviceFields after updatePlace ≡ true)
+
 -- A copy into the block.
 module _ (block s : List ℕ) (place n : ℕ) (room : place + n ≤ length block) (long : n ≤ length s) where
-  -- m bytes from a place on lie before those written or behind them.
-  abbrev Apart : ℕ → ℕ → Type 0
-  Apart at m = min (at + m - place) (place + n - at) ≡ 0
-
-  pub kept : (fs : List Field) (at : ℕ) → widths fs ≡ true → Apart at (span fs)
+  kept : (fs : List Field) (at : ℕ) → widths fs ≡ true → Apart place n at (span fs)
       → right fs block at ≡ true → right fs (paste block place s n) at ≡ true
   kept fs at w h e = right-same fs w (paste-apart block s place n room long at (span fs) h) ∙ e
 
-  pub kept-shape : (shape : ℕ) → Apart shape shapeSize → shapeRight block shape ≡ true → shapeRight (paste block place s n) shape ≡ true
+  kept-shape : (shape : ℕ) → Apart place n shape shapeSize → shapeRight block shape ≡ true → shapeRight (paste block place s n) shape ≡ true
   kept-shape shape h e = shape-same (paste-apart block s place n room long shape shapeSize h) ∙ e
 
   -- Between a and b it writes what the fields between them take.
@@ -103,21 +113,16 @@ module _ (block s : List ℕ) (place n : ℕ) (room : place + n ≤ length block
         new,
       )
 
-  -- Beside both shapes and the smooth table's counts.
-  beside : Apart stagedShape shapeSize × Apart liveShape shapeSize × Apart smoothTable 2
-      → right pictureFields (paste block place s n) 0 ≡ true
-      → right (fieldsOf 0x36) (paste block place s n) enable ≡ true
-      → right deviceFields (paste block place s n) updatePlace ≡ true
-      → Parts block → Parts (paste block place s n)
-  unfolding widths commandOf
-  beside h picture enabled device p =
+  pub frame : Parts block → Framed place n (paste block place s n) → Parts (paste block place s n)
+  unfolding widths commandOf pictureFields deviceFields
+  frame p f =
       record {
-        picture = picture;
-        staged = kept-shape stagedShape (h .0) (p .staged);
-        enabled = enabled;
-        live = kept-shape liveShape (h .1) (p .live);
-        smooth = kept (fieldsOf 0x38) smoothTable refl (h .2) (p .smooth);
-        device = device;
+        picture = ⊎-elim (λ h. kept pictureFields 0 refl h (p .picture)) (λ e. e) (f .picture);
+        staged = ⊎-elim (λ h. kept-shape stagedShape h (p .staged)) (λ e. e) (f .staged);
+        enabled = ⊎-elim (λ h. kept (fieldsOf 0x36) enable refl h (p .enabled)) (λ e. e) (f .enabled);
+        live = ⊎-elim (λ h. kept-shape liveShape h (p .live)) (λ e. e) (f .live);
+        smooth = ⊎-elim (λ h. kept (fieldsOf 0x38) smoothTable refl h (p .smooth)) (λ e. e) (f .smooth);
+        device = ⊎-elim (λ h. kept deviceFields updatePlace refl h (p .device)) (λ e. e) (f .device);
       }
 
 -- What the data of a fixed write stores: the k-th of m equal runs that stand behind others, from a place on.
@@ -141,37 +146,51 @@ module _ (op : ℕ) (d block : List ℕ)
       (rw split at w) (omega (arith, span-append l (forEach k fs), each-span fs k, u .here)) (u .size)
       (all-right fs (u .some) (drop (commandOf op .read) d) 0 (u .taken)))
 
-  keep : (fs : List Field) (at : ℕ) → widths fs ≡ true → min (at + span fs - placeOf op d) (placeOf op d + commandOf op .back - at) ≡ 0
-      → right fs block at ≡ true → right fs (stored op d block) at ≡ true
-  keep = kept block (drop (commandOf op .read) d) (placeOf op d) (commandOf op .back) room long
+  framed : Framed (placeOf op d) (commandOf op .back) (stored op d block) → Parts (stored op d block)
+  framed = frame block (drop (commandOf op .read) d) (placeOf op d) (commandOf op .back) room long p
 
-  picture-stays : (l fs r : List Field) → pictureFields ≡ l ++ forEach 1 fs ++ r → placeOf op d + commandOf op .back ≤ 8 → Put op d 0 l fs 1 0
+  picture-stays : (l fs r : List Field) → pictureFields ≡ l ++ forEach 1 fs ++ r → placeOf op d + commandOf op .back ≤ stagedShape → Put op d 0 l fs 1 0
       → Parts (stored op d block)
-  unfolding widths commandOf pictureFields deviceFields
+  unfolding widths commandOf pictureFields
   picture-stays l fs r e h u =
-      beside block (drop (commandOf op .read) d) (placeOf op d) (commandOf op .back) room long (omega arith)
-      (put pictureFields l fs r 1 0 0 e refl u (p .picture))
-      (keep (fieldsOf 0x36) enable refl (omega arith) (p .enabled))
-      (keep deviceFields updatePlace refl (omega arith) (p .device)) p
+      framed
+      (record {
+        picture = inr (put pictureFields l fs r 1 0 0 e refl u (p .picture));
+        staged = inl (omega arith);
+        enabled = inl (omega arith);
+        live = inl (omega arith);
+        smooth = inl (omega arith);
+        device = inl (omega arith);
+      })
 
   enable-stays : Put op d enable [] (fieldsOf 0x36) 1 0 → Parts (stored op d block)
-  unfolding widths commandOf pictureFields deviceFields
+  unfolding widths commandOf
   enable-stays u =
-      beside block (drop (commandOf op .read) d) (placeOf op d) (commandOf op .back) room long (omega arith)
-      (keep pictureFields 0 refl (omega arith) (p .picture))
-      (put (fieldsOf 0x36) [] (fieldsOf 0x36) [] 1 0 enable refl refl u (p .enabled))
-      (keep deviceFields updatePlace refl (omega arith) (p .device)) p
+      framed
+      (record {
+        picture = inl (omega arith);
+        staged = inl (omega arith);
+        enabled = inr (put (fieldsOf 0x36) [] (fieldsOf 0x36) [] 1 0 enable refl refl u (p .enabled));
+        live = inl (omega arith);
+        smooth = inl (omega arith);
+        device = inl (omega arith);
+      })
 
   device-stays : (l fs r : List Field) (m k : ℕ) → deviceFields ≡ l ++ forEach m fs ++ r → updatePlace ≤ placeOf op d → Put op d updatePlace l fs m k
       → Parts (stored op d block)
-  unfolding widths commandOf pictureFields deviceFields
+  unfolding widths commandOf deviceFields
   device-stays l fs r m k e h u =
-      beside block (drop (commandOf op .read) d) (placeOf op d) (commandOf op .back) room long (omega arith)
-      (keep pictureFields 0 refl (omega arith) (p .picture))
-      (keep (fieldsOf 0x36) enable refl (omega arith) (p .enabled))
-      (put deviceFields l fs r m k updatePlace e refl u (p .device)) p
+      framed
+      (record {
+        picture = inl (omega arith);
+        staged = inl (omega arith);
+        enabled = inl (omega arith);
+        live = inl (omega arith);
+        smooth = inl (omega arith);
+        device = inr (put deviceFields l fs r m k updatePlace e refl u (p .device));
+      })
 
--- The fields from place 497 on, in front of and behind those of a command.
+-- The fields from 39h's place on, in front of and behind those of a command.
 abbrev beforePwm : List Field
 beforePwm = (updateMode ∷ []) ++ forEach pinCount (behindPort 0x60)
 
