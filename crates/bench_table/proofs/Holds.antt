@@ -16,10 +16,11 @@ use Rattle.reply.specs.Reply.{replyBytes}
 use Rattle.settings.specs.Layout.{placeOf}
 use Rattle.settings.specs.Ranges.{pictureFields, deviceFields, right, shapeRight, settingsRight}
 use Rattle.settings.specs.Reset.{resetShape, resetBlock, resetMap, resetGains}
-use Rattle.controller.specs.State.{State, state, lengthsRight, stopped, resetState}
+use Rattle.controller.specs.State.{State, state, lengthsRight, stopped}
 use Rattle.controller.specs.Commands.{writeGains, readGains, readPoints, shapeBytes, writeShape, readShape, applyBlock, applyLive}
 use Rattle.controller.specs.Commands.{writeSmooth, readSmooth, blockAfter, written, blockBack, dataBack, runsPast}
 use Rattle.controller.specs.Step.{Out, out, numberOf, replyTo, step}
+use Rattle.controller.specs.Calls.{stateAfterAll}
 use Rattle.controller.proofs.Demands.{state-lent}
 use Rattle.controller8.specs.Bytes.{LentOut, outBytes}
 use Rattle.controller8.proofs.Promises.{step-bytes}
@@ -28,7 +29,7 @@ use Rattle.upload.specs.Cost.{differs, best, rooms, more}
 use Rattle.upload.specs.Plan.{planFrom, planOf, packetFor, packetsOf, joined, batchOf, planNumbers}
 use Rattle.upload.specs.Planning.{Sheets, sheets, PlanOut, planOut, bytePlanOut, planned, pointsWrong, lengthsWrong}
 use Rattle.upload.proofs.Outcome.{plan-bytes}
-use Rattle.bench_table.specs.Table.{PacketRow, PlanRow, BenchRow, packets, plans, rows, buffer, blank, stateOf}
+use Rattle.bench_table.specs.Table.{PacketRow, PlanRow, BenchRow, packets, plans, rows, buffer, blank, stateAfter}
 use Rattle.bench_table.specs.Holds.{packetOut, planRowOut, PacketHolds, PlanHolds, EachHolds}
 
 -- ---- The test.
@@ -60,7 +61,7 @@ samePlan o q =
 
 abbrev holds : BenchRow → Bool
 holds (packets r) =
-    lengthsRight (stateOf (r .before) resetState) && sameOut (step (r .packet) (stateOf (r .before) resetState) buffer) (packetOut r)
+    lengthsRight (stateAfter (r .before)) && sameOut (step (r .packet) (stateAfter (r .before)) buffer) (packetOut r)
 holds (plans r) = eqb (planned (r .n) (r .held) (r .wanted) blank .status) 0 && samePlan (planned (r .n) (r .held) (r .wanted) blank) (planRowOut r)
 
 abbrev allHold : List BenchRow → Bool
@@ -68,7 +69,7 @@ allHold [] = true
 allHold (r ∷ rs) = holds r && allHold rs
 
 all-hold : T (allHold rows)
-unfolding total checksum over fault wordsAt riseFrom rise firstLarge commandOf judgement pointsSizeWrong gainsSizeWrong controlSizeWrong smoothSizeWrong sizeWrong gainsFault listsFault controlFault smoothFault valueFault replyBytes placeOf pictureFields deviceFields right shapeRight settingsRight resetShape resetBlock resetMap resetGains stopped writeGains readGains readPoints shapeBytes writeShape readShape applyBlock applyLive writeSmooth readSmooth blockAfter written blockBack dataBack runsPast numberOf replyTo step packetOf differs best rooms more planFrom planOf packetFor packetsOf joined batchOf planNumbers planned
+unfolding total checksum over fault wordsAt riseFrom rise firstLarge commandOf judgement pointsSizeWrong gainsSizeWrong controlSizeWrong smoothSizeWrong sizeWrong gainsFault listsFault controlFault smoothFault valueFault replyBytes placeOf pictureFields deviceFields right shapeRight settingsRight resetShape resetBlock resetMap resetGains stopped writeGains readGains readPoints shapeBytes writeShape readShape applyBlock applyLive writeSmooth readSmooth blockAfter written blockBack dataBack runsPast numberOf replyTo step stateAfterAll packetOf differs best rooms more planFrom planOf packetFor packetsOf joined batchOf planNumbers planned
 all-hold = tt
 
 -- ---- What it tells.
@@ -115,7 +116,7 @@ same-plan o q t =
 
 packet-holds : (r : PacketRow) → T (holds (packets r)) → PacketHolds r
 packet-holds r t =
-    let s : State = stateOf (r .before) resetState in
+    let s : State = stateAfter (r .before) in
     let right = and-left (lengthsRight s) (sameOut (step (r .packet) s buffer) (packetOut r)) t in
     let same : step (r .packet) s buffer ≡ packetOut r = same-out _ _ (and-right (lengthsRight s) (sameOut (step (r .packet) s buffer) (packetOut r)) t) in
     record {

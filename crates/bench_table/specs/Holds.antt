@@ -6,12 +6,11 @@ use mathlib.Core.List.{List, [], _∷_}
 use lib.ListN.{length}
 use Rattle.wire.specs.Buffers.{over}
 use Rattle.wire.specs.Tables.{bytes}
-use Rattle.controller.specs.State.{resetState}
 use Rattle.controller.specs.Step.{Out, out}
 use Rattle.controller.specs.Demands.{Handled}
 use Rattle.controller8.specs.Bytes.{LentOut, lentOf, outBytes, HandledBytes}
 use Rattle.upload.specs.Planning.{sheets, PlanOut, planOut, sheetBytes, bytePlanOut, Planned, PlannedBytes}
-use Rattle.bench_table.specs.Table.{PacketRow, PlanRow, BenchRow, packets, plans, buffer, blank, stateOf}
+use Rattle.bench_table.specs.Table.{PacketRow, PlanRow, BenchRow, packets, plans, buffer, blank, stateAfter}
 
 -- The answer and all that was lent, as the row says.
 abbrev pub packetOut : PacketRow → Out
@@ -22,8 +21,8 @@ planRowOut r = planOut (r .status) (r .packets) (r .bytes) (sheets (r .plan) (r 
 
 -- A packet's row, of the entries on numbers and on bytes.
 pub record PacketHolds (r : PacketRow) : Type 0 where
-  pub on-numbers : (o : Out) → Handled (r .packet) (stateOf (r .before) resetState) buffer o → o ≡ packetOut r
-  pub on-bytes : (o : LentOut) → HandledBytes (r .packet) (lentOf (stateOf (r .before) resetState)) buffer o
+  pub on-numbers : (o : Out) → Handled (r .packet) (stateAfter (r .before)) buffer o → o ≡ packetOut r
+  pub on-bytes : (o : LentOut) → HandledBytes (r .packet) (lentOf (stateAfter (r .before))) buffer o
       → o ≡ outBytes (packetOut r)
 
 -- A plan's row, likewise.

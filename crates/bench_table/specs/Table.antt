@@ -6,7 +6,7 @@ use mathlib.Core.List.{List, [], _∷_}
 use lib.ListN.{set, replicate}
 use Rattle.settings.specs.Reset.{resetMap}
 use Rattle.controller.specs.State.{State, resetState}
-use Rattle.controller.specs.Step.{step}
+use Rattle.controller.specs.Calls.{callsOf, stateAfterAll}
 use Rattle.upload.specs.Planning.{Sheets, sheets}
 
 pub record PacketRow : Type 0 where
@@ -39,10 +39,9 @@ buffer = replicate 512 0xA5
 abbrev pub blank : Sheets
 blank = sheets (replicate 3968 0xA5A5) (replicate 1985 0xA5A5A5A5) (replicate 8032 0xA5)
 
--- The state after packets taken one after another.
-abbrev pub stateOf : List (List ℕ) → State → State
-stateOf [] s = s
-stateOf (p ∷ ps) s = stateOf ps (step p s buffer .state)
+-- The state after packets taken one after another from reset on.
+abbrev pub stateAfter : List (List ℕ) → State
+stateAfter ps = stateAfterAll (callsOf buffer ps) resetState
 
 -- A map with one point changed, its two numbers from a place on.
 abbrev pub withNumbers : List ℕ → ℕ → ℕ → ℕ → List ℕ

@@ -10,6 +10,12 @@ pub record Call : Type 0 where
   pub packet : List ℕ
   pub reply : List ℕ
 
+-- The same reply buffer lent with each of some packets.
+abbrev pub callsOf : List ℕ → List (List ℕ) → List Call
+callsOf reply [] = []
+callsOf reply (p ∷ ps) = record { packet = p; reply = reply } ∷ callsOf reply ps
+
+-- The state that calls leave, one after another.
 unfoldable pub stateAfterAll : List Call → State → State
 stateAfterAll [] s = s
 stateAfterAll (x ∷ xs) s = stateAfterAll xs (step (x .packet) s (x .reply) .state)

@@ -22,7 +22,8 @@ use Rattle.upload.specs.Plan.{Part, planOf, packetFor, packetsOf}
 use Rattle.upload.specs.Judge.{mapsAfter, AllAccepted, MapOf}
 use Rattle.upload.proofs.Reading.{sound}
 use Rattle.upload.proofs.Lists.{demand3}
-use Rattle.delivery.specs.Delivery.{sent, AllStored, Delivered}
+use Rattle.controller.specs.Calls.{Call, callsOf, stateAfterAll}
+use Rattle.delivery.specs.Delivery.{AllStored, Delivered}
 use Rattle.controller.proofs.Same.{accepted-step}
 
 -- ---- A map of n points with more behind it.
@@ -93,15 +94,16 @@ quiet-step p s reply runs e a h = rw (← e) (accepted-step p s reply runs (rw e
 
 -- Each gets the state that the last one left.
 quiet-sent : {n : ℕ} {ps : List (List ℕ)} → Quiet n ps → (s : State) (reply : List ℕ) → stopped s reply ≡ false → points (s .block) ≡ n
-    → (sent ps s reply ≡ staging s (mapsAfter n ps (s .staged))) × AllStored ps s reply
-unfolding sent mapsAfter
+    → (stateAfterAll (callsOf reply ps) s ≡ staging s (mapsAfter n ps (s .staged))) × AllStored (callsOf reply ps) s
+unfolding stateAfterAll mapsAfter
 quiet-sent Quiet.none s reply runs e = (refl, AllStored.none)
 quiet-sent {n} (Quiet.next {p} {ps} a h r) s reply runs e =
     let l = lent s reply runs in
     let one = quiet-step p s reply runs e a h in
     let long = long-after n p (s .staged) (omega (arith, l .tables .staged, counts (s .block) (l .settings) .points)) in
     let rest = quiet-sent r (staging s (mapAfter n p (s .staged))) reply (stopped-staging s reply (mapAfter n p (s .staged)) long ∙ runs) e in
-    (ap (λ (o : Out). sent ps (o .state) (o .reply)) one ∙ rest .0, AllStored.next {p = p} {ps = ps} {s = s} {reply = reply} (rw one) (rw one (rest .1)))
+    let call : Call = record { packet = p; reply = reply } in
+    (ap (λ (o : Out). stateAfterAll (callsOf reply ps) (o .state)) one ∙ rest .0, AllStored.next {x = call} {xs = callsOf reply ps} {s = s} (rw one) (rw one (rest .1)))
 
 -- ---- The plan.
 
