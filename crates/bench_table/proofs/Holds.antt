@@ -1,9 +1,8 @@
 -- Every row of the table holds: one test, computed along the whole table from the definitions, and carried to each row and to both families.
 use Prim.Native.Nat.{ℕ}
-use mathlib.Core.Path.{_≡_, refl, sym, ap, _∙_}
+use mathlib.Core.Path.{_≡_, refl, ap, _∙_}
 use mathlib.Core.Bool.{Bool, true, false, _&&_}
 use mathlib.Core.List.{List, [], _∷_}
-use lib.ListN.{length}
 use lib.Dec.{T, eqb, eqb→eq}
 use Rattle.wire.specs.Checksum.{total, checksum}
 use Rattle.wire.specs.Buffers.{over}
@@ -22,12 +21,12 @@ use Rattle.controller.specs.Commands.{writeSmooth, readSmooth, blockAfter, writ
 use Rattle.controller.specs.Step.{Out, out, numberOf, replyTo, step}
 use Rattle.controller.specs.Calls.{stateAfterAll}
 use Rattle.controller.proofs.Demands.{state-lent}
-use Rattle.controller8.specs.Bytes.{LentOut, outBytes}
+use Rattle.controller8.specs.Bytes.{outBytes}
 use Rattle.controller8.proofs.Promises.{step-bytes}
 use Rattle.packet.specs.Making.{packetOf}
 use Rattle.upload.specs.Cost.{differs, best, rooms, more}
 use Rattle.upload.specs.Plan.{planFrom, planOf, packetFor, packetsOf, joined, batchOf, planNumbers}
-use Rattle.upload.specs.Planning.{Sheets, sheets, PlanOut, planOut, bytePlanOut, planned, pointsWrong, lengthsWrong}
+use Rattle.upload.specs.Planning.{sheets, PlanOut, planOut, bytePlanOut, planned}
 use Rattle.upload.proofs.Outcome.{plan-bytes}
 use Rattle.bench_table.specs.Table.{PacketRow, PlanRow, BenchRow, packets, plans, rows, buffer, blank, stateAfter}
 use Rattle.bench_table.specs.Holds.{packetOut, planRowOut, PacketHolds, PlanHolds, EachHolds}

@@ -1,6 +1,5 @@
 -- Rule 8.1: what it means that the bench rows hold: whatever meets the contract of an entry, on tables of numbers or on their
 -- bytes, is what the row says, answer and every lent list.
-use Prim.Native.Nat.{ℕ}
 use mathlib.Core.Path.{_≡_}
 use mathlib.Core.List.{List, [], _∷_}
 use lib.ListN.{length}

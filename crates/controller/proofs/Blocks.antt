@@ -1,40 +1,16 @@
 -- Copies within the block, out of it and into it: what a run of stores or a copy leaves is what the definitions say, since each is the part
 -- before, what was put in, and the part behind.
-use Prim.Native.Nat.{ℕ, _+_, _≤_, _<_}
+use Prim.Native.Nat.{ℕ, _+_}
 use mathlib.Core.Path.{_≡_, sym, _∙_}
 use mathlib.Core.List.{List, [], _∷_, _++_}
-use native.Mathlib.Nat.{zero-add}
-use native.Mathlib.Numerals.{one-add}
 use native.Mathlib.Omega.{arith}
-use lib.ListN.{length, take, drop, getD, set, length-drop, List·getD-append}
-use lib.Seq.{sets, length-sets, sets-eq, paste, length-take-le, length-paste-head, take-all, getD-take, take-set-le, drop-set-add}
-use Rattle.wire.specs.Buffers.{over}
+use lib.ListN.{length, take, drop, set, length-drop}
+use lib.Seq.{sets, length-sets, paste, take-set-le, drop-set-add}
 use Rattle.wire.specs.Numbers.{byteAt, wordBytes}
 use Rattle.wire.proofs.Laws.{sets-append}
+use Rattle.wire.proofs.Copies.{sets-paste}
 use Rattle.controller.specs.Commands.{writeShape, shapeBytes}
 use Rattle.settings.specs.Layout.{blockSize, enable, liveShape, shapeSize, stagedShape, columnList, columnEntries, rowEntries, listsSize}
-
--- A copy leaves what lies before it.
-pub before-paste : (d : List ℕ) (at : ℕ) (s : List ℕ) (n i : ℕ) → at ≤ length d → n ≤ length s → i < at → getD (paste d at s n) i 0 ≡ getD d i 0
-before-paste d at s n i hd hs h =
-    let head : i < length (take at d ++ take n s) = omega (arith, length-paste-head d at s n hd hs) in
-    let front : i < length (take at d) = omega (arith, length-take-le at d hd) in
-    List·getD-append (take at d ++ take n s) (drop (at + n) d) 0 i head ∙ List·getD-append (take at d) (take n s) 0 i front ∙ getD-take at d i 0 h
-
--- A run of stores is a copy of all that it stores.
-pub sets-paste : (d : List ℕ) (at : ℕ) (s : List ℕ) → at + length s ≤ length d → sets d at s ≡ paste d at s (length s)
-sets-paste d at s h = sets-eq s d at h ∙ rw (take-all (length s) s (omega arith))
-
--- A copy to a buffer's start is written over it; so is a byte with a copy behind it.
-pub paste-over : (out s : List ℕ) (n : ℕ) → n ≤ length s → (n ≡ length (take n s)) × (paste out 0 s n ≡ over (take n s) out)
-unfolding over
-paste-over out s n h = let long = length-take-le n s h in (sym long, rw (long, zero-add n))
-
-pub byte-over : (out s : List ℕ) (v n : ℕ) → 1 ≤ length out → n ≤ length s
-    → (1 + n ≡ length (v ∷ take n s)) × (paste (set out 0 v) 1 s n ≡ over (v ∷ take n s) out)
-unfolding over
-byte-over [] s v n room h = absurd (omega arith)
-byte-over (x ∷ out) s v n room h = let long = length-take-le n s h in (omega arith, rw (long, one-add n))
 
 -- 35h in mode 1: mode, columns, rows and the lists, stored one behind the other, are one copy.
 pub lists-stored : (block d : List ℕ) → length block ≡ blockSize → length d ≡ 1 + listsSize → byteAt d 0 ≡ 1

@@ -3,10 +3,10 @@
 use Prim.Native.Nat.{ℕ, _+_, _-_, _*_, _≤_, _<_}
 use mathlib.Core.Path.{_≡_, refl, sym, ap, _∙_}
 use mathlib.Core.Bool.{Bool, true, false, cond, _&&_}
-use mathlib.Core.List.{List, [], _∷_, _++_}
+use mathlib.Core.List.{List, [], _∷_}
 use native.Mathlib.Nat.{mul-le-mul}
 use native.Mathlib.Omega.{arith}
-use borrow.Author.Tests.{ltb-false, eqb-true, eqb-false, ne-eqb}
+use borrow.Author.Tests.{ltb-false, eqb-true, eqb-false}
 use lib.ListN.{length, take, drop, length-drop}
 use lib.Dec.{eqb}
 use Rattle.wire.specs.First.{first}
@@ -18,7 +18,7 @@ use Rattle.opcode.specs.Options.{optionsIn, isRead}
 use Rattle.opcode.specs.Commands.{commandOf}
 use Rattle.opcode.specs.Judgement.{judgement}
 use Rattle.opcode.specs.Allowed.{WriteData, ReadData}
-use Rattle.wire.proofs.Tests.{Numbered, first-silent, silent-first, and-left, and-right, told}
+use Rattle.wire.proofs.Tests.{first-silent, silent-first, first-after, and-left, and-right, told}
 use Rattle.opcode.proofs.Accepts.Fields.{All, takes-within}
 use Rattle.opcode.proofs.Accepts.Reads.{silent-read}
 use Rattle.opcode.proofs.Accepts.Writes.{silent-write}
@@ -32,14 +32,8 @@ use Rattle.settings.specs.Ranges.{right, fieldsOf, pictureFields, deviceFields,
 use Rattle.controller.specs.Commands.{runsPast, third}
 use Rattle.controller.specs.Step.{reads, readAndPlaced, decision}
 use Rattle.controller.specs.Internal.{PointsWrite, PointsRead, GainsWrite, GainsRead}
-use Rattle.settings.specs.Reset.{mapSize}
 
 -- ---- The number of a packet: the first of reading's refusals, and then 12.
-
-first-after : (ts us : List (ℕ × Bool)) → Numbered ts → first (ts ++ us) ≡ cond (eqb (first ts) 0) (first us) (first ts)
-first-after [] us n = refl
-first-after ((k, true) ∷ ts) us n = rw (ne-eqb k 0 (λ e. omega arith))
-first-after ((k, false) ∷ ts) us n = first-after ts us (n .1)
 
 placed-first : (p block : List ℕ)
     → first (readAndPlaced p block)

@@ -8,17 +8,17 @@ use mathlib.Core.List.{List, [], _∷_, _++_}
 use native.Mathlib.Omega.{arith}
 use native.Mathlib.Decide.{ℕ-discrete}
 use borrow.Author.Tests.{eq-eqb, ne-eqb, le-leb, ltb-false, le-ltb}
-use lib.ListN.{length, getD, drop}
+use lib.ListN.{length, getD}
 use lib.Seq.{drop-at}
 use lib.Dec.{eqb}
 use Rattle.wire.specs.First.{first}
 use Rattle.wire.specs.Buffers.{over}
 use Rattle.opcode.specs.Options.{hasSum, isRead}
 use Rattle.opcode.specs.Judgement.{judgement}
-use Rattle.wire.proofs.Tests.{told, Silent, Numbered, silent-first, first-silent}
+use Rattle.wire.proofs.Tests.{told, Silent, Numbered, silent-first, first-silent, first-left, first-right}
 use Rattle.reply.specs.Reply.{replyBytes}
 use Rattle.packet.specs.Frame.{headerOf, opcodeOf, dataOf}
-use Rattle.packet.specs.Reading.{refusals, reading}
+use Rattle.packet.specs.Reading.{refusals}
 use Rattle.packet.proofs.Frames.{reading-number}
 use Rattle.packet.proofs.Exactly.{exactly}
 use Rattle.settings.specs.Ranges.{settingsRight}
@@ -158,16 +158,6 @@ accepted-exactly p bytes s reply = (to, from)
               (first-silent (refusals p) (refusals-numbered p) (sym (reading-number p) ∙ exactly p bytes .1 (a .taken)))
               (fits p (s .block) (a .placed), tt),
         )
-
--- The first of two lists that stand one behind the other.
-first-left : (a b : List (ℕ × Bool)) → (first a ≡ 0 → ⊥) → first (a ++ b) ≡ first a
-first-left [] b h = absurd (h refl)
-first-left ((k, true) ∷ a) b h = refl
-first-left ((k, false) ∷ a) b h = first-left a b h
-
-first-right : (a b : List (ℕ × Bool)) → Silent a → first (a ++ b) ≡ first b
-first-right [] b s = refl
-first-right (t ∷ a) b s = rw (s .0) (first-right a b (s .1))
 
 pub demand1 : (p : List ℕ) (s : State) (reply : List ℕ) → Demand1 p s reply (step p s reply)
 unfolding step numberOf over

@@ -8,7 +8,6 @@ use native.Mathlib.Omega.{arith}
 use borrow.Author.Tests.{ne-eqb}
 use lib.ListN.{length, take, drop}
 use lib.Seq.{paste}
-use lib.Dec.{eqb}
 use Rattle.wire.specs.Buffers.{Overwrites}
 use Rattle.opcode.specs.Options.{isRead, hasSum, optionsIn}
 use Rattle.packet.specs.Frame.{headerOf}

@@ -1,6 +1,6 @@
 -- Every packet leaves a state in range, lengths included: a write changes one run of settings, to what the same tests take, and keeps the
 -- others; a table keeps its length, since what is written lies within it.
-use Prim.Native.Nat.{ℕ, _+_, _*_, _-_, _≤_, _<_, min}
+use Prim.Native.Nat.{ℕ, _+_, _*_, _-_, _≤_, _<_}
 use mathlib.Core.Path.{_≡_, refl, _∙_}
 use mathlib.Core.Logic.{inl, inr}
 use mathlib.Core.Bool.{true, false}
@@ -22,14 +22,15 @@ use Rattle.opcode.specs.Commands.{commandOf, fixed}
 use Rattle.opcode.specs.Judgement.{judgement}
 use Rattle.opcode.specs.Allowed.{Rising, WriteData}
 use Rattle.wire.proofs.Tests.{told}
+use Rattle.wire.proofs.Copies.{Same, front, paste-there, paste-apart}
 use Rattle.opcode.proofs.Accepts.Lists.{words-part, rising-rise}
 use Rattle.packet.specs.Frame.{headerOf, opcodeOf, dataOf}
 use Rattle.packet.specs.Points.{writePoints, startOf, pointsOf}
 use Rattle.packet.proofs.Exactly.{bytes-of-data}
-use Rattle.settings.specs.Layout.{blockSize, enable, liveShape, shapeSize, smoothTable, stagedShape, updatePlace, columnList, rowList, columnEntries, rowEntries, listsSize, shapeHead}
+use Rattle.settings.specs.Layout.{blockSize, enable, liveShape, shapeSize, smoothTable, stagedShape, columnList, rowList, columnEntries, rowEntries, listsSize, shapeHead}
 use Rattle.settings.specs.Layout.{placeOf, stored}
-use Rattle.settings.specs.Ranges.{right, fieldsOf, pictureFields, deviceFields, rising, shapeRight, settingsRight}
-use Rattle.settings.proofs.Same.{Same, front, widths, right-same, words-same, shape-same, paste-there, paste-apart}
+use Rattle.settings.specs.Ranges.{right, fieldsOf, rising, shapeRight, settingsRight}
+use Rattle.settings.proofs.Same.{widths, right-same, words-same, shape-same}
 use Rattle.settings.proofs.Stays.{parts, whole, all-right, Framed, frame, stays}
 use Rattle.controller.specs.State.{State, replyRoom}
 use Rattle.controller.specs.Commands.{gainsWords, gainsInto, writeGains, shapeBytes, writeShape, applyBlock, applyLive, writeSmooth, blockAfter, written, runsPast, third}

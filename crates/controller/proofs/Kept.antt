@@ -1,10 +1,9 @@
 -- Block bytes without a meaning survive every packet: whatever a write copies into the block ends where the settings end, at 865.
-use Prim.Native.Nat.{ℕ, _+_, _-_, _≤_}
-use mathlib.Core.Path.{_≡_, sym, ap, _∙_}
+use Prim.Native.Nat.{ℕ, _-_}
+use mathlib.Core.Path.{_≡_, _∙_}
 use mathlib.Core.List.{List, [], _∷_}
 use native.Mathlib.Omega.{arith}
 use lib.ListN.{length, drop, length-drop}
-use lib.Seq.{paste, drop-paste, drop-drop}
 use Rattle.opcode.specs.Options.{optionsIn}
 use Rattle.packet.specs.Frame.{headerOf, opcodeOf, dataOf}
 use Rattle.controller.specs.State.{State}
@@ -12,26 +11,18 @@ use Rattle.controller.specs.Commands.{blockAfter, written}
 use Rattle.controller.specs.Step.{step}
 use Rattle.controller.proofs.Changes.{Way, way, Change, changed, enabled, enabled-long}
 use Rattle.settings.specs.Layout.{blockSize, enable, liveShape, settingsEnd, shapeSize, stagedShape}
-
--- A copy leaves what lies behind it.
-behind-paste : (d : List ℕ) (at : ℕ) (s : List ℕ) (n i : ℕ) → at + n ≤ i → at + n ≤ length d → n ≤ length s → drop i (paste d at s n) ≡ drop i d
-behind-paste d at s n i h hd hs =
-    let here : at + n + (i - (at + n)) ≡ i = omega arith in
-    let there : drop (at + n) (paste d at s n) ≡ drop (at + n) d = drop-paste d at s n (omega arith) hs in
-    let more : ℕ = i - (at + n) in
-    rw here at
-    (sym (drop-drop more (at + n) (paste d at s n)) ∙ ap (drop more) there ∙ drop-drop more (at + n) d)
+use Rattle.wire.proofs.Copies.{behind-paste}
 
 tail-changed : {op : ℕ} {d : List ℕ} → Change op d → (block : List ℕ) → length block ≡ blockSize
     → drop settingsEnd (blockAfter op d block) ≡ drop settingsEnd block
 tail-changed (Change.none e) block l = rw (e block)
 tail-changed (Change.copied from to n c e) block l =
-    rw (e block) (behind-paste block to from n settingsEnd (c .ends) (omega arith) (c .long))
+    rw (e block) (behind-paste block from to n (omega arith) (c .long) settingsEnd (c .ends))
 tail-changed (Change.applied a v e) block l =
     let long = enabled-long block l in
     rw (e block)
-    (behind-paste (enabled block) liveShape (drop stagedShape block) shapeSize settingsEnd (omega arith) (omega arith) (rw length-drop (omega arith))
-    ∙ behind-paste block enable (1 ∷ []) 1 settingsEnd (omega arith) (omega arith) (omega arith))
+    (behind-paste (enabled block) (drop stagedShape block) liveShape shapeSize (omega arith) (rw length-drop (omega arith)) settingsEnd (omega arith)
+    ∙ behind-paste block (1 ∷ []) enable 1 (omega arith) (omega arith) settingsEnd (omega arith))
 
 pub tail-kept : (p : List ℕ) (s : State) (reply : List ℕ) → drop settingsEnd (step p s reply .state .block) ≡ drop settingsEnd (s .block)
 unfolding written

@@ -1,17 +1,17 @@
 -- The live side changes by an accepted 36h write of 1 alone: any other packet leaves the live points and the live settings, and so does any
 -- list of others.
-use Prim.Native.Nat.{ℕ, _+_, _≤_, _<_}
+use Prim.Native.Nat.{ℕ, _+_, _≤_}
 use mathlib.Core.Path.{_≡_, refl, sym, _∙_}
 use mathlib.Core.List.{List}
 use native.Mathlib.Decide.{ℕ-discrete}
 use native.Mathlib.Omega.{arith}
 use borrow.Author.Tests.{eq-eqb, ne-eqb}
-use lib.ListN.{length, take, drop, length-take, length-drop}
-use lib.Seq.{ext-getD, getD-take, getD-drop, paste, length-paste}
+use lib.ListN.{length, take, drop}
+use lib.Seq.{paste, length-paste}
 use Rattle.wire.specs.Numbers.{byteAt}
+use Rattle.wire.proofs.Copies.{same-part, paste-apart}
 use Rattle.opcode.specs.Options.{optionsIn}
 use Rattle.packet.specs.Frame.{headerOf, opcodeOf, dataOf}
-use Rattle.settings.proofs.Same.{Same, paste-apart}
 use Rattle.controller.specs.State.{State}
 use Rattle.controller.specs.Commands.{blockAfter, liveAfter, written, applyLive}
 use Rattle.controller.specs.Step.{step}
@@ -19,17 +19,6 @@ use Rattle.controller.specs.Demands.{Applies, LiveKept}
 use Rattle.controller.specs.Calls.{Call, stateAfterAll, NoneApplies}
 use Rattle.controller.proofs.Changes.{Way, way, Change, changed}
 use Rattle.settings.specs.Layout.{blockSize, liveShape, shapeSize}
-
--- Equal elements make equal parts.
-same-part : {a b : List ℕ} {i j n : ℕ} → Same a i b j n → i + n ≤ length a → j + n ≤ length b → take n (drop i a) ≡ take n (drop j b)
-same-part {a} {b} {i} {j} {n} h la lb =
-    let long : length (take n (drop i a)) ≡ n = simp (length-take, length-drop) (omega arith) in
-    let same-long : length (take n (drop i a)) ≡ length (take n (drop j b)) = simp (length-take, length-drop) (omega arith) in
-    ext-getD 0 (take n (drop i a)) (take n (drop j b)) same-long
-    (λ k lt.
-    let inside : k < n = omega arith in
-    getD-take n (drop i a) k 0 inside ∙ getD-drop i a k 0 ∙ h .each k inside ∙ sym (getD-drop j b k 0)
-    ∙ sym (getD-take n (drop j b) k 0 inside))
 
 shape-changed : {op : ℕ} {d : List ℕ} → (op ≡ 0x36 → byteAt d 0 ≡ 1 → ⊥) → Change op d → (block : List ℕ) → length block ≡ blockSize
     → take shapeSize (drop liveShape block) ≡ take shapeSize (drop liveShape (blockAfter op d block))

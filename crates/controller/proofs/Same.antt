@@ -3,7 +3,7 @@ use Prim.Native.Nat.{ℕ, _+_, _≤_}
 use mathlib.Core.Path.{_≡_, refl, sym, ap, _∙_}
 use mathlib.Core.Logic.{_↔_}
 use mathlib.Core.Bool.{Bool, true, false}
-use mathlib.Core.List.{List, [], _∷_, _++_}
+use mathlib.Core.List.{List, [], _∷_}
 use native.Mathlib.Omega.{arith}
 use borrow.Author.Tests.{ltb-false, le-ltb, le-leb, eq-eqb, ne-eqb}
 use lib.ListN.{length}
@@ -12,7 +12,7 @@ use Rattle.wire.specs.First.{first}
 use Rattle.wire.specs.Buffers.{over}
 use Rattle.opcode.specs.Options.{isRead}
 use Rattle.opcode.specs.Judgement.{judgement}
-use Rattle.wire.proofs.Tests.{Numbered, told}
+use Rattle.wire.proofs.Tests.{Numbered, none-both, told}
 use Rattle.packet.specs.Frame.{headerOf, opcodeOf, dataOf}
 use Rattle.packet.specs.Reading.{Answer, refusals, reading}
 use Rattle.packet.specs.Points.{startOf, countOf, acceptedAt, mapAfter}
@@ -24,12 +24,6 @@ use Rattle.controller.proofs.Steps.{decision-number, step-written}
 use Rattle.controller.proofs.Demands.{decided}
 use Rattle.controller.proofs.Changes.{Way, way}
 use Rattle.controller.specs.Demands.{Writes34, SameWrite}
-
--- No test of two lists holds exactly if none of each does.
-none-both : (ts us : List (ℕ × Bool)) → Numbered ts → (first (ts ++ us) ≡ 0) ↔ ((first ts ≡ 0) × (first us ≡ 0))
-none-both [] us n = (λ e. (refl, e), λ h. h .1)
-none-both ((k, true) ∷ ts) us n = (λ e. absurd (omega arith), λ h. absurd (omega arith))
-none-both ((k, false) ∷ ts) us n = none-both ts us (n .1)
 
 refusals-numbered : (p : List ℕ) → Numbered (refusals p)
 unfolding judgement

@@ -10,12 +10,12 @@ use lib.Seq.{paste, take-all, getD-drop}
 use Rattle.wire.specs.Buffers.{over}
 use Rattle.wire.specs.Tables.{words, bytes}
 use Rattle.wire.proofs.Tables.{halves-paste}
+use Rattle.wire.proofs.Copies.{paste-over}
 use Rattle.packet.specs.Points.{writePoints, startOf, pointsOf}
 use Rattle.tables.proofs.Bytes.{Below, bytes-words, bytes-part}
 use Rattle.settings.specs.Reset.{mapSize, gainsSize}
 use Rattle.controller.specs.Commands.{pointCount, gainsColour, gainsCount, gainsPlace, third, gainsWords, writeGains}
 use Rattle.controller.specs.Internal.{PointsWrite, GainsWrite}
-use Rattle.controller.proofs.Blocks.{paste-over}
 use Rattle.controller.proofs.Grants.{gains-one, gains-three}
 use Rattle.controller8.specs.Bytes.{mapBytes, gainsBytes}
 

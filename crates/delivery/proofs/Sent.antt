@@ -3,13 +3,14 @@
 use Prim.Native.Nat.{ℕ, _+_, _*_, _≤_}
 use mathlib.Core.Path.{_≡_, refl, sym, ap, _∙_}
 use mathlib.Core.Bool.{Bool, true, false, and-false}
-use mathlib.Core.List.{List, [], _∷_, _++_, append-assoc, map}
+use mathlib.Core.List.{List, [], _∷_, _++_, map}
 use native.Mathlib.Omega.{arith}
 use lib.ListN.{length, take, drop, take-append-drop}
-use lib.Seq.{paste, length-paste, take-append-le, drop-append-le, take-at, drop-at}
+use lib.Seq.{length-paste, take-at, drop-at}
 use Rattle.wire.specs.Numbers.{wordBytes}
 use Rattle.wire.specs.Buffers.{over}
 use Rattle.wire.specs.Tables.{bytes}
+use Rattle.wire.proofs.Copies.{paste-front}
 use Rattle.packet.specs.Frame.{headerOf, dataOf}
 use Rattle.packet.specs.Points.{startOf, pointsOf, acceptedAt, mapAfter}
 use Rattle.packet.proofs.MadeReads.{made-reads}
@@ -27,11 +28,6 @@ use Rattle.delivery.specs.Delivery.{AllStored, Delivered}
 use Rattle.controller.proofs.Same.{accepted-step}
 
 -- ---- A map of n points with more behind it.
-
--- A copy that ends within the first list.
-paste-front : (a b : List ℕ) (at : ℕ) (s : List ℕ) (n : ℕ) → at + n ≤ length a → paste (a ++ b) at s n ≡ paste a at s n ++ b
-paste-front a b at s n h =
-    rw (take-append-le at a b (omega arith), drop-append-le (at + n) a b h) (sym (append-assoc (take at a ++ take n s) (drop (at + n) a) b))
 
 module _ (n : ℕ) (p : List ℕ) where
   long-after : (m : List ℕ) → 2 * n ≤ length m → length (mapAfter n p m) ≡ length m

@@ -4,10 +4,11 @@ use mathlib.Core.Path.{_≡_, refl, sym, ap, _∙_}
 use mathlib.Core.Bool.{Bool, true, false, cond, not, _&&_}
 use mathlib.Core.List.{List, [], _∷_, _++_}
 use native.Mathlib.Omega.{arith}
-use borrow.Author.Tests.{ltb-false, eqb-true, eq-eqb}
+use borrow.Author.Tests.{ltb-false, eqb-true, eqb-false, eq-eqb}
 use lib.ListN.{length, take, drop}
 use lib.Dec.{eqb}
 use Rattle.wire.specs.First.{first}
+use Rattle.wire.proofs.Tests.{first-silent, first-left, first-right, none-both}
 use Rattle.opcode.specs.Judgement.{judgement}
 use Rattle.packet.specs.Frame.{headerOf, opcodeOf, optionsOf, place, fields, dataSize, dataOf}
 use Rattle.packet.specs.Reading.{Answer, tooShort, tooLong, lengthDiffers, checksumDiffers, elsewhere, frameRefusals, refusals, commandAt, refusedBy, answered, reading}
@@ -21,23 +22,6 @@ standing p = commandAt (opcodeOf p) (optionsOf p) (place (headerOf p)) (dataSize
 abbrev pub rows : Bool → Bool → Bool → Bool → Bool → List (ℕ × Bool)
 rows a b c d e = (2, a) ∷ (3, b) ∷ (4, c) ∷ (5, d) ∷ (6, e) ∷ []
 
--- The frame's number, or if it has none the first of what follows.
-pub framed-first : (a b c d e : Bool) (ts : List (ℕ × Bool))
-    → first (rows a b c d e ++ ts) ≡ cond (eqb (first (rows a b c d e)) 0) (first ts) (first (rows a b c d e))
-framed-first true b c d e ts = refl
-framed-first false true c d e ts = refl
-framed-first false false true d e ts = refl
-framed-first false false false true e ts = refl
-framed-first false false false false true ts = refl
-framed-first false false false false false ts = refl
-
-module _ (a b c d e : Bool) (ts : List (ℕ × Bool)) where
-  pub framed-broken : eqb (first (rows a b c d e)) 0 ≡ false → first (rows a b c d e ++ ts) ≡ first (rows a b c d e)
-  framed-broken h = framed-first a b c d e ts ∙ rw h
-
-  pub framed-sound : first (rows a b c d e) ≡ 0 → first (rows a b c d e ++ ts) ≡ first ts
-  framed-sound h = framed-first a b c d e ts ∙ rw h
-
 -- No number means that no test held, and none of what follows.
 pub record Passed (a b c d e : Bool) : Type 0 where
   pub no-2 : a ≡ false
@@ -47,12 +31,10 @@ pub record Passed (a b c d e : Bool) : Type 0 where
   pub no-6 : e ≡ false
 
 pub none-of : (a b c d e : Bool) (ts : List (ℕ × Bool)) → first (rows a b c d e ++ ts) ≡ 0 → Passed a b c d e × (first ts ≡ 0)
-none-of true b c d e ts h = absurd (omega arith)
-none-of false true c d e ts h = absurd (omega arith)
-none-of false false true d e ts h = absurd (omega arith)
-none-of false false false true e ts h = absurd (omega arith)
-none-of false false false false true ts h = absurd (omega arith)
-none-of false false false false false ts h = (record { no-2 = refl; no-3 = refl; no-4 = refl; no-5 = refl; no-6 = refl }, h)
+none-of a b c d e ts h =
+    let both = none-both (rows a b c d e) ts (omega arith) .0 h in
+    let silent = first-silent (rows a b c d e) (omega arith) (both .0) in
+    (record { no-2 = silent .0; no-3 = silent .1 .0; no-4 = silent .1 .1 .0; no-5 = silent .1 .1 .1 .0; no-6 = silent .1 .1 .1 .1 .0 }, both .1)
 
 -- The tests of a frame, one by one.
 pub framed-by : (p : List ℕ) {a b c d e : Bool} → tooShort p ≡ a → tooLong p ≡ b → lengthDiffers p ≡ c → checksumDiffers p ≡ d
@@ -98,7 +80,7 @@ pub broken-read : (p : List ℕ) (n : ℕ) → refusedBy n ≡ framed p → refu
 unfolding framed reading
 broken-read p n h =
     let some = broken-some (eqb (first (frameRefusals p)) 0) (first (frameRefusals p)) n p h in
-    h ∙ ap (λ (n : ℕ). answered n p) (sym (framed-broken (tooShort p) (tooLong p) (lengthDiffers p) (checksumDiffers p) (elsewhere p) (judgement (opcodeOf p) (optionsOf p) (dataOf p)) some))
+    h ∙ ap (λ (n : ℕ). answered n p) (sym (first-left (frameRefusals p) (judgement (opcodeOf p) (optionsOf p) (dataOf p)) (eqb-false (first (frameRefusals p)) 0 some)))
 
 -- What a sound frame holds.
 pub record Stands (p : List ℕ) (op o at size : ℕ) : Type 0 where
@@ -142,5 +124,5 @@ judged-read p op o at size n h e =
     let there : take (at + size - at) (drop at p) ≡ dataOf p = rw (long, s .same-place) in
     let number : n ≡ first (refusals p) =
     e ∙ alike (λ (op o : ℕ) (d : List ℕ). first (judgement op o d)) (s .same-opcode) (s .same-options) there
-    ∙ sym (framed-sound (tooShort p) (tooLong p) (lengthDiffers p) (checksumDiffers p) (elsewhere p) (judgement (opcodeOf p) (optionsOf p) (dataOf p)) (s .none)) in
+    ∙ sym (first-right (frameRefusals p) (judgement (opcodeOf p) (optionsOf p) (dataOf p)) (first-silent (frameRefusals p) (omega arith) (s .none))) in
     ap (λ (a : Answer). cond (eqb n 0) a (refusedBy n)) (h ∙ ap (λ (n : ℕ). answered n p) (s .none)) ∙ ap (λ (n : ℕ). answered n p) number

@@ -5,10 +5,11 @@ use mathlib.Core.Path.{_≡_, refl, sym, _∙_}
 use mathlib.Core.List.{List, [], _∷_, _++_}
 use native.Mathlib.Omega.{arith}
 use lib.ListN.{length, take, length-append}
-use lib.Seq.{sets, sets-eq, paste, take-length}
+use lib.Seq.{sets, sets-eq, paste}
 use Rattle.wire.specs.Numbers.{wordBytes}
 use Rattle.wire.specs.Checksum.{checksum}
 use Rattle.wire.specs.Buffers.{over}
+use Rattle.wire.proofs.Copies.{sets-paste}
 use Rattle.wire.proofs.Laws.{sets-append, take-over}
 use Rattle.opcode.specs.Options.{twoByte, hasLength, hasSum}
 use Rattle.packet.specs.Frame.{place, fields}
@@ -16,9 +17,6 @@ use Rattle.packet.specs.Making.{present, headBytes, packetOf}
 
 pub sets-sets : (l : List ℕ) (i j : ℕ) (a b : List ℕ) → j ≡ i + length a → sets (sets l i a) j b ≡ sets l i (a ++ b)
 sets-sets l i j a b e = rw e (sets-append l i a b)
-
-pub paste-sets : (l : List ℕ) (at : ℕ) (s : List ℕ) → at + length s ≤ length l → paste l at s (length s) ≡ sets l at s
-paste-sets l at s h = rw (take-length s) (sym (sets-eq s l at h))
 
 pub sets-over : (s l : List ℕ) → length s ≤ length l → sets l 0 s ≡ over s l
 unfolding over
@@ -70,7 +68,7 @@ module _ (op o : ℕ) (d l : List ℕ) (room : fields o + length d ≤ length l)
       let head : b₄ ≡ sets l 0 (headBytes op o (length d)) =
       stored l ((4 + o) ∷ op ∷ high) size (omega (arith, length-present (twoByte o) (0 ∷ []) (omega arith))) three e₄ in
       let front : b₅ ≡ sets l 0 s =
-      stored l (headBytes op o (length d)) d (omega (arith, length-head op o (length d))) head (e₅ ∙ paste-sets b₄ from d (omega arith)) in
+      stored l (headBytes op o (length d)) d (omega (arith, length-head op o (length d))) head (e₅ ∙ sym (sets-paste b₄ from d (omega arith))) in
       let long : end ≡ length s = omega (arith, length-front op o d) in
       let first : take end b₅ ≡ s = rw (front, long, sets-over s l (omega arith)) (take-over s l) in
       let whole : b₆ ≡ sets l 0 (packetOf op o d) = stored l s (present (hasSum o) (checksum s ∷ [])) long front (rw first at e₆) in

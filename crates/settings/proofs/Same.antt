@@ -1,40 +1,22 @@
 -- What a test of the block looks at: a run of fields its own bytes, a shape its 193. So a copy into the block changes only the tests of
 -- the bytes that it writes.
-use Prim.Native.Nat.{ℕ, zero, suc, _+_, _*_, _-_, _≤_, _<_, min}
-use mathlib.Core.Path.{_≡_, refl, sym, _∙_}
+use Prim.Native.Nat.{ℕ, zero, suc, _+_, _*_, _-_, _≤_}
+use mathlib.Core.Path.{_≡_, refl, sym}
 use mathlib.Core.Bool.{Bool, true, _&&_, _||_, and-assoc}
 use mathlib.Core.List.{List, [], _∷_, _++_}
-use native.Mathlib.Decide.{decLt, ℕ-discrete}
+use native.Mathlib.Decide.{ℕ-discrete}
 use native.Mathlib.Omega.{arith}
 use borrow.Author.Tests.{eqb-true, ne-eqb}
 use lib.Dec.{eqb}
-use lib.ListN.{length, take, drop, getD, List·getD-append}
-use lib.Seq.{length-take-le, getD-take, getD-drop, getD-append-add, paste, length-paste-head}
 use Rattle.wire.specs.Numbers.{byteAt, wordAt, longAt}
 use Rattle.opcode.specs.declared.Field.{Field}
 use Rattle.opcode.specs.Fields.{number, wordsAt}
 use Rattle.opcode.specs.Commands.{commandOf}
 use Rattle.wire.proofs.Tests.{and-left, and-right}
+use Rattle.wire.proofs.Copies.{Same, front, part}
 use Rattle.opcode.proofs.Accepts.Fields.{span}
 use Rattle.settings.specs.Ranges.{right, fieldsOf, shapeRight}
 use Rattle.settings.specs.Layout.{shapeSize}
-
--- n elements of a list, from a place on, are those of another, from a place on.
-pub record Same (a : List ℕ) (i : ℕ) (b : List ℕ) (j n : ℕ) : Type 0 where
-  pub each : (k : ℕ) → k < n → getD a (i + k) 0 ≡ getD b (j + k) 0
-
-pub front : {a b : List ℕ} {i j n : ℕ} → Same a i b j n → (m : ℕ) → m ≤ n → Same a i b j m
-front h m l = record { each = λ k lt. h .each k (omega arith) }
-
-pub part : {a b : List ℕ} {i j n : ℕ} → Same a i b j n → (k m : ℕ) → k + m ≤ n → Same a (i + k) b (j + k) m
-part {a} {b} {i} {j} h k m l =
-    record {
-      each =
-          λ x lt.
-          let e : i + k + x ≡ i + (k + x) = omega arith in
-          let f : j + k + x ≡ j + (k + x) = omega arith in
-          rw (e, f) (h .each (k + x) (omega arith));
-    }
 
 -- Numbers.
 byte-same : {a b : List ℕ} {i j n : ℕ} → Same a i b j n → 1 ≤ n → byteAt a i ≡ byteAt b j
@@ -101,42 +83,3 @@ shape-same h =
       words-same 62 (part h 5 124 (omega arith)),
       words-same 32 (part h 129 64 (omega arith)),
     )
-
--- A copy: the bytes that it writes are its source's, and the others stay.
-module _ (d s : List ℕ) (place n : ℕ) (room : place + n ≤ length d) (long : n ≤ length s) where
-  written : length (take place d ++ take n s) ≡ place + n
-  written = length-paste-head d place s n (omega arith) long
-
-  pub paste-there : Same (paste d place s n) place s 0 n
-  paste-there =
-      record {
-        each =
-            λ k lt.
-            let head : length (take place d) ≡ place = length-take-le place d (omega arith) in
-            let e : 0 + k ≡ k = omega arith in
-            List·getD-append (take place d ++ take n s) (drop (place + n) d) 0 (place + k) (rw written (omega arith))
-            ∙ (rw head at (getD-append-add (take place d) (take n s) k 0))
-            ∙ rw e (getD-take n s k 0 lt);
-      }
-
-  before : (k : ℕ) → k < place → getD (paste d place s n) k 0 ≡ getD d k 0
-  before k lt =
-      List·getD-append (take place d ++ take n s) (drop (place + n) d) 0 k (rw written (omega arith))
-      ∙ List·getD-append (take place d) (take n s) 0 k (rw (length-take-le place d (omega arith)) lt)
-      ∙ getD-take place d k 0 lt
-
-  behind : (k : ℕ) → place + n ≤ k → getD (paste d place s n) k 0 ≡ getD d k 0
-  behind k le =
-      let e : place + n + (k - (place + n)) ≡ k = omega arith in
-      rw e at
-      ((rw written at (getD-append-add (take place d ++ take n s) (drop (place + n) d) (k - (place + n)) 0))
-      ∙ getD-drop (place + n) d (k - (place + n)) 0)
-
-  -- m bytes that lie before those written or behind them.
-  pub paste-apart : (at m : ℕ) → min (at + m - place) (place + n - at) ≡ 0 → Same (paste d place s n) at d at m
-  paste-apart at m apart =
-      record {
-        each =
-            λ k lt.
-            elim (decLt (at + k) place) [ yes l ↦ before (at + k) l | no l ↦ behind (at + k) (omega arith) ];
-      }

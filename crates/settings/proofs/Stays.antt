@@ -16,6 +16,7 @@ use Rattle.opcode.specs.Options.{isRead}
 use Rattle.opcode.specs.Commands.{commandOf, fixed, flag}
 use Rattle.opcode.specs.Allowed.{WriteData, Allowed}
 use Rattle.wire.proofs.Tests.{told}
+use Rattle.wire.proofs.Copies.{front, paste-there, paste-apart}
 use Rattle.opcode.proofs.Accepts.Fields.{All, all-fault, fault-all, span, least}
 use Rattle.settings.specs.Layout.{settingsEnd, blockSize, enable, liveShape, pinCount, pwmCount, shapeSize, smoothTable, stagedShape, uartCount, updatePlace}
 use Rattle.settings.specs.Layout.{placeOf, stored}
@@ -23,7 +24,7 @@ use Rattle.settings.specs.Ranges.{right, fieldsOf, behindPort, forEach, 
 use Rattle.settings.specs.Reset.{resetShape, resetBlock}
 use Rattle.settings.proofs.Laws.{span-append, right-append, fault-right}
 use Rattle.settings.proofs.Fits.{own-slot, place-fits, write-long}
-use Rattle.settings.proofs.Same.{widths, widths-append, front, right-same, shape-same, paste-there, paste-apart}
+use Rattle.settings.proofs.Same.{widths, widths-append, right-same, shape-same}
 
 -- The parts of the rule.
 pub record Parts (d : List ℕ) : Type 0 where

@@ -1,10 +1,12 @@
 -- Tests joined by `&&` and `||`, and lists of (number, test): no test of a list holds exactly if the number given is 0.
 use Prim.Native.Nat.{ℕ, _<_}
 use mathlib.Core.Path.{_≡_, refl}
-use mathlib.Core.Bool.{Bool, true, false, not, _&&_, _||_}
-use mathlib.Core.List.{List, [], _∷_}
+use mathlib.Core.Logic.{_↔_}
+use mathlib.Core.Bool.{Bool, true, false, cond, not, _&&_, _||_}
+use mathlib.Core.List.{List, [], _∷_, _++_}
 use native.Mathlib.Omega.{arith}
-use borrow.Author.Tests.{not-true, not-false, ltb-true, ltb-false, leb-true, leb-false, eqb-true}
+use borrow.Author.Tests.{not-true, not-false, ltb-true, ltb-false, leb-true, leb-false, eqb-true, ne-eqb}
+use lib.Dec.{eqb}
 use Rattle.wire.specs.First.{first}
 
 pub and-left : (a b : Bool) → a && b ≡ true → a ≡ true
@@ -53,3 +55,23 @@ pub first-silent : (ts : List (ℕ × Bool)) → Numbered ts → first ts ≡ 0 
 first-silent [] n e = tt
 first-silent ((k, true) ∷ ts) n e = absurd (omega arith)
 first-silent ((k, false) ∷ ts) n e = (refl, first-silent ts (n .1) e)
+
+-- Two lists, one behind the other: the first one's number, or if it has none the other's.
+pub first-left : (ts us : List (ℕ × Bool)) → (first ts ≡ 0 → ⊥) → first (ts ++ us) ≡ first ts
+first-left [] us h = absurd (h refl)
+first-left ((k, true) ∷ ts) us h = refl
+first-left ((k, false) ∷ ts) us h = first-left ts us h
+
+pub first-right : (ts us : List (ℕ × Bool)) → Silent ts → first (ts ++ us) ≡ first us
+first-right [] us s = refl
+first-right (t ∷ ts) us s = rw (s .0) (first-right ts us (s .1))
+
+pub first-after : (ts us : List (ℕ × Bool)) → Numbered ts → first (ts ++ us) ≡ cond (eqb (first ts) 0) (first us) (first ts)
+first-after [] us n = refl
+first-after ((k, true) ∷ ts) us n = rw (ne-eqb k 0 (λ e. omega arith))
+first-after ((k, false) ∷ ts) us n = first-after ts us (n .1)
+
+pub none-both : (ts us : List (ℕ × Bool)) → Numbered ts → (first (ts ++ us) ≡ 0) ↔ ((first ts ≡ 0) × (first us ≡ 0))
+none-both [] us n = (λ e. (refl, e), λ h. h .1)
+none-both ((k, true) ∷ ts) us n = (λ e. absurd (omega arith), λ h. absurd (omega arith))
+none-both ((k, false) ∷ ts) us n = none-both ts us (n .1)

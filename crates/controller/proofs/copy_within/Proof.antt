@@ -5,7 +5,7 @@ use native.Mathlib.Omega.{arith}
 use lib.ListN.{length, drop, getD, length-drop}
 use lib.Seq.{getD-drop}
 use Rattle.wire.proofs.Laws.{Copying, start, turn, done}
-use Rattle.controller.proofs.Blocks.{before-paste}
+use Rattle.wire.proofs.Copies.{before-paste}
 use Rattle.controller.proofs.copy_within.Statement.{statement}
 use Rattle.controller.proofs.copy_within.Tie as tie
 
@@ -45,7 +45,7 @@ loop-again c =
     let enough : args .n ≤ length (drop (args .from) block) = rw length-drop (omega arith) in
     let same : getD (now .block) (args .from + now .k) 0 ≡ getD (drop (args .from) block) (now .k) 0 =
     rw (now .inv .copied, getD-drop (args .from) block (now .k) 0)
-    (before-paste block (args .at) (drop (args .from) block) (now .k) (args .from + now .k) (omega arith) (omega arith) (omega arith)) in
+    (before-paste block (drop (args .from) block) (args .at) (now .k) (omega arith) (omega arith) (args .from + now .k) (omega arith)) in
     turn (at-loop .before .pre .1) enough (c .before .loop-test .taken) same (now .inv)
 
 same-length : tie.Need-same-length Inv-loop μ-loop

@@ -3,7 +3,7 @@ use native.Mathlib.Omega.{arith}
 use Prim.Native.Nat.{_≤_}
 use mathlib.Core.Path.{_∙_}
 use lib.ListN.{length, drop, length-drop}
-use Rattle.controller.proofs.Blocks.{paste-over}
+use Rattle.wire.proofs.Copies.{paste-over}
 use borrow.Author.Needs.{needs}
 use Rattle.controller.proofs.fetch_part.Statement.{statement}
 use Rattle.controller.proofs.fetch_part.Tie as tie

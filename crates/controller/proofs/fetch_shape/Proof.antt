@@ -6,7 +6,7 @@ use borrow.Author.Tests.{ne-eqb}
 use lib.ListN.{length, drop, length-drop}
 use Rattle.wire.specs.Numbers.{byteAt}
 use Rattle.controller.specs.Commands.{readShape}
-use Rattle.controller.proofs.Blocks.{byte-over}
+use Rattle.wire.proofs.Copies.{byte-over}
 use borrow.Author.Needs.{needs}
 use Rattle.controller.proofs.fetch_shape.Statement.{statement}
 use Rattle.controller.proofs.fetch_shape.Tie as tie

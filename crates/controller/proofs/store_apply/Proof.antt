@@ -5,7 +5,8 @@ use native.Mathlib.Omega.{arith}
 use borrow.Author.Tests.{ne-eqb}
 use Rattle.wire.specs.Numbers.{byteAt}
 use Rattle.controller.specs.Commands.{applyBlock}
-use Rattle.controller.proofs.Blocks.{sets-paste, shape-applied}
+use Rattle.wire.proofs.Copies.{sets-paste}
+use Rattle.controller.proofs.Blocks.{shape-applied}
 use borrow.Author.Needs.{needs}
 use Rattle.controller.proofs.store_apply.Statement.{statement}
 use Rattle.controller.proofs.store_apply.Tie as tie

@@ -1,6 +1,6 @@
 -- A command's values are packed side by side, and none of them is large; a refusal has nothing beside its number.
 use Prim.Native.Nat.{_≤_}
-use mathlib.Core.Path.{_≡_, sym, ap, _∙_, subst}
+use mathlib.Core.Path.{_≡_, sym, subst}
 use native.Mathlib.Omega.{arith}
 use borrow.Author.Needs.{needs}
 use Rattle.packet.specs.Reading.{commandAt, Answer, reading}
