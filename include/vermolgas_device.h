@@ -1,8 +1,8 @@
 /* Vermolgas with a device in one argument: a thin layer over vermolgas.h, for C (C99 on) and C++ (C++11 on).
  *
  * What is lent together is one struct, so nothing can be swapped or lent with a wrong length, and what is answered
- * together is another, whose fields have names. A function that answers a status alone answers 0 if it was accepted, else
- * the number of the refusal.
+ * together is another, whose fields have names. A function that answers a status alone answers 0 if it was accepted,
+ * else the number of the refusal.
  *
  * Every function takes any argument. NULL where something is lent is refusal 1, as a wrong length is, and a number that
  * does not fit its field is refusal 10; then nothing is written. Else the entries below decide. What the caller sees to
@@ -171,6 +171,17 @@ static inline void vermolgas_refuse_(struct vermolgas_data_ *data, unsigned stat
         data->status = status;
 }
 
+/* For a list, of which so many items fit a packet. */
+VERMOLGAS_INLINE_ struct vermolgas_data_ vermolgas_data_for_(const void *list, size_t count, size_t most)
+{
+    struct vermolgas_data_ data = vermolgas_no_data_();
+    if (list == NULL && count > 0)
+        vermolgas_refuse_(&data, VERMOLGAS_REFUSED_LENT);
+    if (count > most)
+        vermolgas_refuse_(&data, VERMOLGAS_REFUSED_TOO_LONG);
+    return data;
+}
+
 /* A number of one or two bytes behind what is filled, for which there is room. One that has more bytes is refused: cut
  * off it would be another one. */
 static inline void vermolgas_put_(struct vermolgas_data_ *data, size_t number, size_t bytes)
@@ -288,13 +299,11 @@ VERMOLGAS_INLINE_ struct vermolgas_command vermolgas_make_shape(unsigned columns
 VERMOLGAS_INLINE_ struct vermolgas_command vermolgas_make_points(size_t start, const struct vermolgas_point *points,
                                                                  size_t count, uint8_t options)
 {
-    struct vermolgas_data_ data = vermolgas_no_data_();
+    struct vermolgas_data_ data = vermolgas_data_for_(points, count, VERMOLGAS_WRITE_POINTS);
     size_t i;
 
-    if (points == NULL && count > 0)
-        return vermolgas_refused_(VERMOLGAS_REFUSED_LENT);
-    if (count > VERMOLGAS_WRITE_POINTS)
-        return vermolgas_refused_(VERMOLGAS_REFUSED_TOO_LONG);
+    if (data.status != VERMOLGAS_ACCEPTED)
+        return vermolgas_refused_(data.status);
     vermolgas_put_start_(&data, start);
     for (i = 0; i < count; i++) {
         vermolgas_put_(&data, points[i].x, 2);
@@ -308,13 +317,11 @@ VERMOLGAS_INLINE_ struct vermolgas_command vermolgas_make_points(size_t start, c
 VERMOLGAS_INLINE_ struct vermolgas_command vermolgas_make_gains(enum vermolgas_gain_colour colour, size_t start,
                                                                 const uint16_t *gains, size_t count, uint8_t options)
 {
-    struct vermolgas_data_ data = vermolgas_no_data_();
+    struct vermolgas_data_ data = vermolgas_data_for_(gains, count, VERMOLGAS_WRITE_GAINS);
     size_t i;
 
-    if (gains == NULL && count > 0)
-        return vermolgas_refused_(VERMOLGAS_REFUSED_LENT);
-    if (count > VERMOLGAS_WRITE_GAINS)
-        return vermolgas_refused_(VERMOLGAS_REFUSED_TOO_LONG);
+    if (data.status != VERMOLGAS_ACCEPTED)
+        return vermolgas_refused_(data.status);
     vermolgas_put_(&data, 0, 1); /* not compressed */
     vermolgas_put_(&data, colour, 1);
     vermolgas_put_(&data, count, 2);
@@ -442,7 +449,7 @@ VERMOLGAS_INLINE_ unsigned vermolgas_upload_plan(struct vermolgas_upload *upload
  *     while (vermolgas_walk_next(&walk))
  *         send(walk.packet, walk.length);
  *
- * The upload has to stay as it was planned. If it did not, the walk ends with status 1, and not outside of the batch. */
+ * The upload has to stay as it was planned. If it did not, the walk ends with status 1, and never leaves the batch. */
 struct vermolgas_walk {
     const struct vermolgas_upload *upload;
     size_t next;           /* which packet of the plan comes next, and where it stands in the batch */

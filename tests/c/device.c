@@ -113,6 +113,8 @@ static void opcodes(void)
     unsigned number;
 
     CHECK(COUNT(carried) == 18);
+    for (number = 1; number < COUNT(carried); number++)
+        CHECK(carried[number - 1] < carried[number]);
     for (number = 0; number < 256; number++) {
         uint8_t packet[2] = {0x84, 0};
         packet[1] = VERMOLGAS_CAST(uint8_t, number);
@@ -121,98 +123,103 @@ static void opcodes(void)
     }
 }
 
-/* Of all bytes at one place of a command's data, exactly those listed are taken. */
-static void named(enum vermolgas_opcode opcode, const char *zeros, size_t length, size_t place, const unsigned *list,
-                  size_t count)
-{
-    uint8_t data[16];
-    unsigned number;
+/* The values that have names, in the guides' order: the numbers rise. */
+static const unsigned displays[] = {VERMOLGAS_DISPLAY_EXTERNAL, VERMOLGAS_DISPLAY_TEST_PATTERN,
+                                    VERMOLGAS_DISPLAY_SOLID_FIELD, VERMOLGAS_DISPLAY_SPLASH,
+                                    VERMOLGAS_DISPLAY_CURTAIN};
+static const unsigned curtains[] = {VERMOLGAS_CURTAIN_BLACK, VERMOLGAS_CURTAIN_WHITE, VERMOLGAS_CURTAIN_GREEN,
+                                    VERMOLGAS_CURTAIN_RED,   VERMOLGAS_CURTAIN_BLUE,  VERMOLGAS_CURTAIN_YELLOW,
+                                    VERMOLGAS_CURTAIN_CYAN,  VERMOLGAS_CURTAIN_MAGENTA};
+static const unsigned flips[] = {VERMOLGAS_FLIP_NONE, VERMOLGAS_FLIP_VERTICAL, VERMOLGAS_FLIP_HORIZONTAL,
+                                 VERMOLGAS_FLIP_BOTH};
+static const unsigned gain_colours[] = {VERMOLGAS_GAIN_ALL, VERMOLGAS_GAIN_RED, VERMOLGAS_GAIN_GREEN,
+                                        VERMOLGAS_GAIN_BLUE};
+static const unsigned modes[] = {VERMOLGAS_CONTROL_POINTS_EVEN};
+static const unsigned updates[] = {VERMOLGAS_UPDATE_OVERWRITE};
+static const unsigned directions[] = {VERMOLGAS_GPIO_INPUT, VERMOLGAS_GPIO_OUTPUT};
+static const unsigned levels[] = {VERMOLGAS_GPIO_LOW, VERMOLGAS_GPIO_HIGH};
+static const unsigned drains[] = {VERMOLGAS_GPIO_STANDARD, VERMOLGAS_GPIO_OPEN_DRAIN};
+static const unsigned locks[] = {VERMOLGAS_EEPROM_UNLOCKED, VERMOLGAS_EEPROM_LOCKED};
+static const unsigned ports[] = {VERMOLGAS_PWM_OUTPUT_0, VERMOLGAS_PWM_OUTPUT_1, VERMOLGAS_PWM_OUTPUT_2,
+                                 VERMOLGAS_PWM_OUTPUT_3, VERMOLGAS_PWM_OUTPUT_4, VERMOLGAS_PWM_OUTPUT_5,
+                                 VERMOLGAS_PWM_OUTPUT_6, VERMOLGAS_PWM_OUTPUT_7, VERMOLGAS_PWM_WHEEL_0,
+                                 VERMOLGAS_PWM_WHEEL_1,  VERMOLGAS_PWM_WHEEL_2,  VERMOLGAS_PWM_DYNAMIC_BLACK};
+static const unsigned bauds[] = {
+    VERMOLGAS_UART_BAUD_1200,   VERMOLGAS_UART_BAUD_2400,   VERMOLGAS_UART_BAUD_4800,   VERMOLGAS_UART_BAUD_9600,
+    VERMOLGAS_UART_BAUD_14400,  VERMOLGAS_UART_BAUD_19200,  VERMOLGAS_UART_BAUD_38400,  VERMOLGAS_UART_BAUD_57600,
+    VERMOLGAS_UART_BAUD_115200, VERMOLGAS_UART_BAUD_230400, VERMOLGAS_UART_BAUD_460800, VERMOLGAS_UART_BAUD_921600};
+static const unsigned bits[] = {VERMOLGAS_UART_BITS_5, VERMOLGAS_UART_BITS_6, VERMOLGAS_UART_BITS_7,
+                                VERMOLGAS_UART_BITS_8};
+static const unsigned stops[] = {VERMOLGAS_UART_STOP_1, VERMOLGAS_UART_STOP_2};
+static const unsigned parities[] = {VERMOLGAS_UART_PARITY_NONE, VERMOLGAS_UART_PARITY_EVEN,
+                                    VERMOLGAS_UART_PARITY_ODD};
+static const unsigned flows[] = {VERMOLGAS_UART_FLOW_OFF, VERMOLGAS_UART_FLOW_HARDWARE};
+static const unsigned triggers[] = {VERMOLGAS_UART_TRIGGER_EIGHTH, VERMOLGAS_UART_TRIGGER_QUARTER,
+                                    VERMOLGAS_UART_TRIGGER_HALF, VERMOLGAS_UART_TRIGGER_THREE_QUARTERS,
+                                    VERMOLGAS_UART_TRIGGER_SEVEN_EIGHTHS};
+static const unsigned polarities[] = {VERMOLGAS_UART_POLARITY_NORMAL, VERMOLGAS_UART_POLARITY_INVERTED};
+static const unsigned sources[] = {VERMOLGAS_UART_SOURCE_RXD, VERMOLGAS_UART_SOURCE_LAMPSTAT};
 
-    memcpy(data, zeros, length);
-    for (number = 0; number < 256; number++) {
-        struct vermolgas_command command;
-        data[place] = VERMOLGAS_CAST(uint8_t, number);
-        command = vermolgas_make_command(opcode, VERMOLGAS_OPTION_LENGTH, data, length);
-        CHECK((command.status == VERMOLGAS_ACCEPTED) == listed(list, count, number));
+/* Where they stand: a command, data that it takes, and the place of the value there. */
+static const struct {
+    enum vermolgas_opcode opcode;
+    const char *data;
+    size_t length, place;
+    const unsigned *values;
+    size_t count;
+} named[] = {
+    {VERMOLGAS_OP_DISPLAY, "", 1, 0, displays, COUNT(displays)},
+    {VERMOLGAS_OP_CURTAIN, "", 1, 0, curtains, COUNT(curtains)},
+    {VERMOLGAS_OP_FLIP, "", 1, 0, flips, COUNT(flips)},
+    {VERMOLGAS_OP_GAINS, "\0\0\1\0\0\0\0", 8, 1, gain_colours, COUNT(gain_colours)},
+    {VERMOLGAS_OP_CONTROL_POINTS, "\0\2\0\2", 5, 0, modes, COUNT(modes)},
+    {VERMOLGAS_OP_UPDATE_MODE, "", 1, 0, updates, COUNT(updates)},
+    {VERMOLGAS_OP_GPIO_PIN_CONFIG, "\0\0\0", 4, 1, directions, COUNT(directions)},
+    {VERMOLGAS_OP_GPIO_PIN_CONFIG, "\0\0\0", 4, 2, levels, COUNT(levels)},
+    {VERMOLGAS_OP_GPIO_PIN_CONFIG, "\0\0\0", 4, 3, drains, COUNT(drains)},
+    {VERMOLGAS_OP_GPIO_PIN, "\0", 2, 1, levels, COUNT(levels)},
+    {VERMOLGAS_OP_EEPROM_LOCK, "", 1, 0, locks, COUNT(locks)},
+    {VERMOLGAS_OP_PWM_OUTPUT, "\0\x14\0\0\0\0", 7, 0, ports, COUNT(ports)},
+    {VERMOLGAS_OP_UART, "\0\0\0\0\0\0\0\0\0\0", 11, 2, bauds, COUNT(bauds)},
+    {VERMOLGAS_OP_UART, "\0\0\0\0\0\0\0\0\0\0", 11, 3, bits, COUNT(bits)},
+    {VERMOLGAS_OP_UART, "\0\0\0\0\0\0\0\0\0\0", 11, 4, stops, COUNT(stops)},
+    {VERMOLGAS_OP_UART, "\0\0\0\0\0\0\0\0\0\0", 11, 5, parities, COUNT(parities)},
+    {VERMOLGAS_OP_UART, "\0\0\0\0\0\0\0\0\0\0", 11, 6, flows, COUNT(flows)},
+    {VERMOLGAS_OP_UART, "\0\0\0\0\0\0\0\0\0\0", 11, 7, triggers, COUNT(triggers)},
+    {VERMOLGAS_OP_UART, "\0\0\0\0\0\0\0\0\0\0", 11, 8, triggers, COUNT(triggers)},
+    {VERMOLGAS_OP_UART, "\0\0\0\0\0\0\0\0\0\0", 11, 9, polarities, COUNT(polarities)},
+    {VERMOLGAS_OP_UART, "\0\0\0\0\0\0\0\0\0\0", 11, 10, sources, COUNT(sources)},
+};
+
+/* Of all bytes at their place, exactly those that have a name are taken. */
+static void named_values(void)
+{
+    size_t i, j;
+
+    for (i = 0; i < COUNT(named); i++) {
+        uint8_t data[16];
+        unsigned number;
+        memcpy(data, named[i].data, named[i].length);
+        for (j = 1; j < named[i].count; j++)
+            CHECK(named[i].values[j - 1] < named[i].values[j]);
+        for (number = 0; number < 256; number++) {
+            data[named[i].place] = VERMOLGAS_CAST(uint8_t, number);
+            CHECK((vermolgas_make_command(named[i].opcode, VERMOLGAS_OPTION_LENGTH, data, named[i].length).status ==
+                   VERMOLGAS_ACCEPTED) == listed(named[i].values, named[i].count, number));
+        }
     }
 }
 
-static void displays_and_colours(void)
+/* Control points that are listed have a size of their own. */
+static void listed_control_points(void)
 {
-    static const unsigned displays[] = {VERMOLGAS_DISPLAY_EXTERNAL, VERMOLGAS_DISPLAY_TEST_PATTERN,
-                                        VERMOLGAS_DISPLAY_SOLID_FIELD, VERMOLGAS_DISPLAY_SPLASH,
-                                        VERMOLGAS_DISPLAY_CURTAIN};
-    static const unsigned curtains[] = {VERMOLGAS_CURTAIN_BLACK, VERMOLGAS_CURTAIN_WHITE, VERMOLGAS_CURTAIN_GREEN,
-                                        VERMOLGAS_CURTAIN_RED,   VERMOLGAS_CURTAIN_BLUE,  VERMOLGAS_CURTAIN_YELLOW,
-                                        VERMOLGAS_CURTAIN_CYAN,  VERMOLGAS_CURTAIN_MAGENTA};
-    static const unsigned flips[] = {VERMOLGAS_FLIP_NONE, VERMOLGAS_FLIP_VERTICAL, VERMOLGAS_FLIP_HORIZONTAL,
-                                     VERMOLGAS_FLIP_BOTH};
-    static const unsigned gains[] = {VERMOLGAS_GAIN_ALL, VERMOLGAS_GAIN_RED, VERMOLGAS_GAIN_GREEN,
-                                     VERMOLGAS_GAIN_BLUE};
-    static const unsigned modes[] = {VERMOLGAS_CONTROL_POINTS_EVEN};
-    static const unsigned updates[] = {VERMOLGAS_UPDATE_OVERWRITE};
     uint8_t lists[189] = {VERMOLGAS_CONTROL_POINTS_LISTED};
     size_t i;
 
-    named(VERMOLGAS_OP_DISPLAY, "", 1, 0, displays, COUNT(displays));
-    named(VERMOLGAS_OP_CURTAIN, "", 1, 0, curtains, COUNT(curtains));
-    named(VERMOLGAS_OP_FLIP, "", 1, 0, flips, COUNT(flips));
-    named(VERMOLGAS_OP_GAINS, "\0\0\1\0\0\0\0", 8, 1, gains, COUNT(gains));
-    named(VERMOLGAS_OP_CONTROL_POINTS, "\0\2\0\2", 5, 0, modes, COUNT(modes));
-    named(VERMOLGAS_OP_UPDATE_MODE, "", 1, 0, updates, COUNT(updates));
     for (i = 0; i < 94; i++)
         lists[1 + 2 * i] = VERMOLGAS_CAST(uint8_t, i);
     CHECK(vermolgas_make_command(VERMOLGAS_OP_CONTROL_POINTS, VERMOLGAS_OPTION_LENGTH, lists, sizeof lists).status ==
           VERMOLGAS_ACCEPTED);
-}
-
-static void pins_and_ports(void)
-{
-    static const unsigned directions[] = {VERMOLGAS_GPIO_INPUT, VERMOLGAS_GPIO_OUTPUT};
-    static const unsigned levels[] = {VERMOLGAS_GPIO_LOW, VERMOLGAS_GPIO_HIGH};
-    static const unsigned drains[] = {VERMOLGAS_GPIO_STANDARD, VERMOLGAS_GPIO_OPEN_DRAIN};
-    static const unsigned locks[] = {VERMOLGAS_EEPROM_UNLOCKED, VERMOLGAS_EEPROM_LOCKED};
-    static const unsigned ports[] = {VERMOLGAS_PWM_OUTPUT_0, VERMOLGAS_PWM_OUTPUT_1, VERMOLGAS_PWM_OUTPUT_2,
-                                     VERMOLGAS_PWM_OUTPUT_3, VERMOLGAS_PWM_OUTPUT_4, VERMOLGAS_PWM_OUTPUT_5,
-                                     VERMOLGAS_PWM_OUTPUT_6, VERMOLGAS_PWM_OUTPUT_7, VERMOLGAS_PWM_WHEEL_0,
-                                     VERMOLGAS_PWM_WHEEL_1,  VERMOLGAS_PWM_WHEEL_2,  VERMOLGAS_PWM_DYNAMIC_BLACK};
-
-    named(VERMOLGAS_OP_GPIO_PIN_CONFIG, "\0\0\0", 4, 1, directions, COUNT(directions));
-    named(VERMOLGAS_OP_GPIO_PIN_CONFIG, "\0\0\0", 4, 2, levels, COUNT(levels));
-    named(VERMOLGAS_OP_GPIO_PIN_CONFIG, "\0\0\0", 4, 3, drains, COUNT(drains));
-    named(VERMOLGAS_OP_GPIO_PIN, "\0", 2, 1, levels, COUNT(levels));
-    named(VERMOLGAS_OP_EEPROM_LOCK, "", 1, 0, locks, COUNT(locks));
-    named(VERMOLGAS_OP_PWM_OUTPUT, "\0\x14\0\0\0\0", 7, 0, ports, COUNT(ports));
-}
-
-static void uart_fields(void)
-{
-    static const char zeros[] = "\0\0\0\0\0\0\0\0\0\0";
-    static const unsigned bauds[] = {
-        VERMOLGAS_UART_BAUD_1200,  VERMOLGAS_UART_BAUD_2400,  VERMOLGAS_UART_BAUD_4800,   VERMOLGAS_UART_BAUD_9600,
-        VERMOLGAS_UART_BAUD_14400, VERMOLGAS_UART_BAUD_19200, VERMOLGAS_UART_BAUD_38400,  VERMOLGAS_UART_BAUD_57600,
-        VERMOLGAS_UART_BAUD_115200, VERMOLGAS_UART_BAUD_230400, VERMOLGAS_UART_BAUD_460800, VERMOLGAS_UART_BAUD_921600};
-    static const unsigned bits[] = {VERMOLGAS_UART_BITS_5, VERMOLGAS_UART_BITS_6, VERMOLGAS_UART_BITS_7,
-                                    VERMOLGAS_UART_BITS_8};
-    static const unsigned stops[] = {VERMOLGAS_UART_STOP_1, VERMOLGAS_UART_STOP_2};
-    static const unsigned parities[] = {VERMOLGAS_UART_PARITY_NONE, VERMOLGAS_UART_PARITY_EVEN,
-                                        VERMOLGAS_UART_PARITY_ODD};
-    static const unsigned flows[] = {VERMOLGAS_UART_FLOW_OFF, VERMOLGAS_UART_FLOW_HARDWARE};
-    static const unsigned triggers[] = {VERMOLGAS_UART_TRIGGER_EIGHTH, VERMOLGAS_UART_TRIGGER_QUARTER,
-                                        VERMOLGAS_UART_TRIGGER_HALF, VERMOLGAS_UART_TRIGGER_THREE_QUARTERS,
-                                        VERMOLGAS_UART_TRIGGER_SEVEN_EIGHTHS};
-    static const unsigned polarities[] = {VERMOLGAS_UART_POLARITY_NORMAL, VERMOLGAS_UART_POLARITY_INVERTED};
-    static const unsigned sources[] = {VERMOLGAS_UART_SOURCE_RXD, VERMOLGAS_UART_SOURCE_LAMPSTAT};
-
-    named(VERMOLGAS_OP_UART, zeros, 11, 2, bauds, COUNT(bauds));
-    named(VERMOLGAS_OP_UART, zeros, 11, 3, bits, COUNT(bits));
-    named(VERMOLGAS_OP_UART, zeros, 11, 4, stops, COUNT(stops));
-    named(VERMOLGAS_OP_UART, zeros, 11, 5, parities, COUNT(parities));
-    named(VERMOLGAS_OP_UART, zeros, 11, 6, flows, COUNT(flows));
-    named(VERMOLGAS_OP_UART, zeros, 11, 7, triggers, COUNT(triggers));
-    named(VERMOLGAS_OP_UART, zeros, 11, 8, triggers, COUNT(triggers));
-    named(VERMOLGAS_OP_UART, zeros, 11, 9, polarities, COUNT(polarities));
-    named(VERMOLGAS_OP_UART, zeros, 11, 10, sources, COUNT(sources));
 }
 
 static void sending(void)
@@ -481,15 +488,23 @@ static bool walk_ends(void)
     return walk.status == VERMOLGAS_REFUSED_LENT && walk.packet == NULL && walk.length == 0;
 }
 
-/* Uploads that did not stay as planned. */
+/* Uploads that did not stay as planned, and walks that were led astray. */
 static void changed_uploads(void)
 {
+    struct vermolgas_walk walk;
+
     plan_a_map();
+    walk = vermolgas_upload_walk(&upload);
+    walk.next_offset = SIZE_MAX;
+    CHECK(!vermolgas_walk_next(&walk) && walk.status == VERMOLGAS_REFUSED_LENT);
     upload_before = upload;
     upload.packets++;
     CHECK(walk_ends());
     upload.packets = SIZE_MAX;
     CHECK(walk_ends());
+    walk = vermolgas_upload_walk(&upload);
+    walk.next = SIZE_MAX / 8;
+    CHECK(!vermolgas_walk_next(&walk) && walk.status == VERMOLGAS_REFUSED_LENT);
     upload.bytes = SIZE_MAX;
     CHECK(walk_ends());
     upload = upload_before;
@@ -566,9 +581,8 @@ static void version(void)
 
 static const struct group groups[] = {
     {"opcodes", opcodes},
-    {"displays and colours", displays_and_colours},
-    {"pins and ports", pins_and_ports},
-    {"UART fields", uart_fields},
+    {"named values", named_values},
+    {"listed control points", listed_control_points},
     {"sending", sending},
     {"replies", replies},
     {"makers", makers},
