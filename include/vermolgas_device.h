@@ -5,9 +5,9 @@
  * else the number of the refusal.
  *
  * Every function takes any argument. NULL where something is lent is refusal 1, as a wrong length is, and a number that
- * does not fit its field is refusal 10; then nothing is written. Else the entries below decide. What the caller sees to
- * is what vermolgas.h says: a pointer is to as many bytes as the length behind it says, and what is written overlaps
- * nothing else that is lent.
+ * does not fit its field is refusal 10; else the entries decide. The number is the first that applies, and then nothing
+ * is written. What the caller sees to is what vermolgas.h says: a pointer is to as many bytes as the length behind it
+ * says, and what is written overlaps nothing else that is lent.
  *
  * Names that end in an underscore are the layer's own.
  */
@@ -151,7 +151,7 @@ struct vermolgas_point {
 #define VERMOLGAS_READ_POINTS  127
 #define VERMOLGAS_READ_GAINS   254
 
-/* Data under writing: what is filled, and the first refusal. */
+/* Data under writing: what is filled, and the first refusal that applies, which is the lowest. */
 struct vermolgas_data_ {
     unsigned status;
     size_t length;
@@ -167,7 +167,7 @@ VERMOLGAS_INLINE_ struct vermolgas_data_ vermolgas_no_data_(void)
 
 static inline void vermolgas_refuse_(struct vermolgas_data_ *data, unsigned status)
 {
-    if (data->status == VERMOLGAS_ACCEPTED)
+    if (data->status == VERMOLGAS_ACCEPTED || data->status > status)
         data->status = status;
 }
 
@@ -194,12 +194,12 @@ static inline void vermolgas_put_(struct vermolgas_data_ *data, size_t number, s
         data->bytes[data->length++] = VERMOLGAS_CAST(uint8_t, number >> (8 * i) & 0xFFu);
 }
 
-/* A start of a table, of two bytes. */
+/* A start of a table, of two bytes. One that has more lies past every table. */
 static inline void vermolgas_put_start_(struct vermolgas_data_ *data, size_t start)
 {
     if (start > 0xFFFF)
         vermolgas_refuse_(data, VERMOLGAS_REFUSED_PAST_TABLE);
-    vermolgas_put_(data, start, 2);
+    vermolgas_put_(data, start & 0xFFFF, 2);
 }
 
 VERMOLGAS_INLINE_ struct vermolgas_command vermolgas_refused_(unsigned status)
@@ -228,12 +228,18 @@ VERMOLGAS_INLINE_ struct vermolgas_command vermolgas_make_command(enum vermolgas
     return command;
 }
 
+/* A packet of data that was written, unless this or the entry refuses it. */
 VERMOLGAS_INLINE_ struct vermolgas_command vermolgas_make_from_(enum vermolgas_opcode opcode, unsigned options,
-                                                                const struct vermolgas_data_ *data)
+                                                                struct vermolgas_data_ *data)
 {
-    if (data->status != VERMOLGAS_ACCEPTED)
-        return vermolgas_refused_(data->status);
-    return vermolgas_make_command(opcode, VERMOLGAS_CAST(uint8_t, options), data->bytes, data->length);
+    struct vermolgas_command command =
+        vermolgas_make_command(opcode, VERMOLGAS_CAST(uint8_t, options), data->bytes, data->length);
+
+    if (data->status == VERMOLGAS_ACCEPTED)
+        return command;
+    if (command.status != VERMOLGAS_ACCEPTED)
+        vermolgas_refuse_(data, command.status);
+    return vermolgas_refused_(data->status);
 }
 
 /* A command whose data is one number. */

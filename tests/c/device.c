@@ -346,6 +346,11 @@ static void makers_refused(void)
     CHECK_REFUSED(vermolgas_make_read_gains(VERMOLGAS_GAIN_ALL, 0, 1, 0), VERMOLGAS_REFUSED_RANGE);
     CHECK_REFUSED(vermolgas_make_read_gains(VERMOLGAS_GAIN_RED, 0, VERMOLGAS_READ_GAINS + 1, 0),
                   VERMOLGAS_REFUSED_RANGE);
+
+    /* The number is the first that applies, whoever finds it. */
+    CHECK_REFUSED(vermolgas_make_look(0x10000, VERMOLGAS_OPTION_READ), VERMOLGAS_REFUSED_SIZE);
+    CHECK_REFUSED(vermolgas_make_read_points(0x10000, 0, 0), VERMOLGAS_REFUSED_RANGE);
+    CHECK_REFUSED(vermolgas_make_read_points(0x10000, 0x10000, 0), VERMOLGAS_REFUSED_RANGE);
 }
 
 static void tables_refused(void)
@@ -361,6 +366,7 @@ static void tables_refused(void)
     CHECK_REFUSED(vermolgas_make_points(0, NULL, 0, 0), VERMOLGAS_REFUSED_SIZE);
     CHECK_REFUSED(vermolgas_make_points(0, NULL, 1, 0), VERMOLGAS_REFUSED_LENT);
     CHECK_REFUSED(vermolgas_make_points(0x10000, points, 1, 0), VERMOLGAS_REFUSED_PAST_TABLE);
+    CHECK_REFUSED(vermolgas_make_points(0x10000, points, 0, 0), VERMOLGAS_REFUSED_SIZE);
 
     CHECK(vermolgas_make_gains(VERMOLGAS_GAIN_ALL, 0, gains, VERMOLGAS_WRITE_GAINS, 0).length == VERMOLGAS_LONGEST);
     CHECK(vermolgas_make_gains(VERMOLGAS_GAIN_ALL, 0, gains, VERMOLGAS_WRITE_GAINS - 1, 0x68).length ==
