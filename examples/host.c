@@ -4,60 +4,28 @@
  * Each packet (>) and each reply (<) is printed in hex. In the field a bus lies between host and controller; here
  * exchange() hands the packet straight to the front end.
  */
-#include "vermolgas.h"
+#include "vermolgas_device.h"
 
-#include <inttypes.h>
 #include <stdio.h>
 #include <stdlib.h>
 #include <string.h>
 
-/* Everything that the front end knows of one controller. The host keeps it and lends it with each call. */
-static struct {
-    uint8_t block[VERMOLGAS_BLOCK_BYTES];
-    uint8_t staged[VERMOLGAS_MAP_BYTES];
-    uint8_t live[VERMOLGAS_MAP_BYTES];
-    uint8_t gains[VERMOLGAS_GAINS_BYTES];
-} controller;
-
-/* An upload: the map that the controller holds, the one that it is to hold, and what planning writes. */
-static struct {
-    uint8_t held[VERMOLGAS_MAP_BYTES];
-    uint8_t wanted[VERMOLGAS_MAP_BYTES];
-    uint8_t plan[VERMOLGAS_PLAN_LIST_BYTES];
-    uint8_t room[VERMOLGAS_ROOM_BYTES];
-    uint8_t batch[VERMOLGAS_BATCH_BYTES];
-} upload;
+static struct vermolgas_device device;
+static struct vermolgas_upload upload;
 
 /* Writes carry a length, and ask for a reply; both ways a checksum goes along. */
-#define WRITE (VERMOLGAS_OPTION_LENGTH | VERMOLGAS_OPTION_CHECKSUM | VERMOLGAS_OPTION_REPLY)
-#define READ  (VERMOLGAS_OPTION_LENGTH | VERMOLGAS_OPTION_CHECKSUM | VERMOLGAS_OPTION_READ)
+#define WRITE (VERMOLGAS_OPTION_LENGTH | VERMOLGAS_OPTIONS_CHECKED)
+#define READ  (VERMOLGAS_OPTION_LENGTH | VERMOLGAS_OPTION_CHECKSUM)
 
-/* 16-bit and 32-bit numbers as data bytes, low byte first. */
-#define U16(n) (uint8_t)((n) & 0xFF), (uint8_t)((n) >> 8 & 0xFF)
-#define U32(n) U16(n), U16((n) >> 16)
+/* Lists with the number of their items, as two arguments of a call. A point is in pixels; packets carry eighths. */
+#define ITEMS(type, ...) (const type[]){__VA_ARGS__}, sizeof(const type[]){__VA_ARGS__} / sizeof(type)
+#define DATA(...)        ITEMS(uint8_t, __VA_ARGS__)
+#define GAINS(...)       ITEMS(uint16_t, __VA_ARGS__)
+#define POINTS(...)      ITEMS(struct vermolgas_point, __VA_ARGS__)
+#define POINT(x, y)      {8 * (x), 8 * (y)}
 
-/* A warp map point in pixels; packets carry eighths. */
-#define POINT(x, y) U16(8 * (x)), U16(8 * (y))
-
-/* Data bytes and their number, as the last two arguments of a call. */
-#define DATA(...) (const uint8_t[]){__VA_ARGS__}, sizeof(const uint8_t[]){__VA_ARGS__}
-#define NO_DATA   NULL, 0
-
-static const char *const refusals[] = {
-    [VERMOLGAS_ACCEPTED] = "accepted",
-    [VERMOLGAS_REFUSED_LENT] = "a lent length is wrong, or a stored setting is out of range",
-    [VERMOLGAS_REFUSED_TOO_SHORT] = "the packet is too short",
-    [VERMOLGAS_REFUSED_TOO_LONG] = "the packet is too long",
-    [VERMOLGAS_REFUSED_LENGTH] = "the length field differs from the data",
-    [VERMOLGAS_REFUSED_CHECKSUM] = "the checksum differs",
-    [VERMOLGAS_REFUSED_DESTINATION] = "the destination isn't 4",
-    [VERMOLGAS_REFUSED_OPCODE] = "no such command",
-    [VERMOLGAS_REFUSED_LENGTH_MISSING] = "this write needs a length field",
-    [VERMOLGAS_REFUSED_SIZE] = "the data has the wrong size",
-    [VERMOLGAS_REFUSED_RANGE] = "a value is out of range",
-    [VERMOLGAS_REFUSED_NOT_CARRIED] = "not carried",
-    [VERMOLGAS_REFUSED_PAST_TABLE] = "start and count run past the table",
-};
+/* A number of 32 bits as data bytes, low byte first. */
+#define U32(n) (n) & 0xFF, (n) >> 8 & 0xFF, (n) >> 16 & 0xFF, (n) >> 24 & 0xFF
 
 static void print_hex(char direction, const uint8_t *bytes, size_t length)
 {
@@ -69,158 +37,162 @@ static void print_hex(char direction, const uint8_t *bytes, size_t length)
     printf("\n");
 }
 
-/* Sends a packet, and prints it and its reply. Every packet here that asks for a reply asks for a checksum, too. */
+/* Sends a packet, and prints it and its reply. */
 static void exchange(const uint8_t *packet, size_t length)
 {
-    uint8_t reply[VERMOLGAS_REPLY_BYTES];
+    struct vermolgas_reply reply;
 
     print_hex('>', packet, length);
-    uint64_t answer = vermolgas_packet(packet, length, controller.block, sizeof controller.block, controller.staged,
-                                       sizeof controller.staged, controller.live, sizeof controller.live,
-                                       controller.gains, sizeof controller.gains, reply, sizeof reply);
-    size_t reply_length = VERMOLGAS_PACKET_REPLY_LENGTH(answer);
-    if (reply_length == 0) {
+    struct vermolgas_result result = vermolgas_device_send(&device, packet, length, &reply);
+    if (result.reply_length == 0) {
         printf("  no reply\n\n");
         return;
     }
-
-    print_hex('<', reply, reply_length);
-    uint64_t read = vermolgas_read_reply(reply, reply_length, 1);
-    if (VERMOLGAS_STATUS(read) != VERMOLGAS_ACCEPTED) {
-        printf("  the reply can't be read: %u\n\n", VERMOLGAS_STATUS(read));
+    print_hex('<', reply.bytes, result.reply_length);
+    if (result.status != VERMOLGAS_ACCEPTED) {
+        printf("  refused with %u: %s\n\n", result.status, vermolgas_refusal_text(result.status));
         return;
     }
-    unsigned status = VERMOLGAS_REPLY_STATUS(read);
-    if (status != VERMOLGAS_ACCEPTED) {
-        printf("  refused with %u: %s\n\n", status, refusals[status]);
-        return;
-    }
-    size_t data_length = VERMOLGAS_REPLY_LENGTH(read);
-    printf("  accepted%s", data_length == 0 ? "" : ", data");
-    for (size_t i = 0; i < data_length; i++)
-        printf(" %02X", reply[VERMOLGAS_REPLY_OFFSET + i]);
+    printf("  accepted%s", result.data_length == 0 ? "" : ", data");
+    for (size_t i = 0; i < result.data_length; i++)
+        printf(" %02X", result.data[i]);
     printf("\n\n");
 }
 
-/* Makes a packet and sends it. A command that no controller would take isn't made, and so isn't sent. */
-static void command(const char *words, uint16_t opcode, uint8_t options, const uint8_t *data, size_t length)
+/* Sends a packet that was made. A command that no controller would take isn't made, and so isn't sent. */
+static void command(const char *words, struct vermolgas_command made)
 {
-    uint8_t packet[VERMOLGAS_LONGEST];
-
     printf("%s\n", words);
-    uint64_t made = vermolgas_make(opcode, options, data, length, packet, sizeof packet);
-    unsigned status = VERMOLGAS_STATUS(made);
-    if (status != VERMOLGAS_ACCEPTED)
-        printf("  not made, %u: %s\n\n", status, refusals[status]);
+    if (made.status != VERMOLGAS_ACCEPTED)
+        printf("  not made, %u: %s\n\n", made.status, vermolgas_refusal_text(made.status));
     else
-        exchange(packet, VERMOLGAS_MAKE_LENGTH(made));
+        exchange(made.bytes, made.length);
+}
+
+/* Commands of pins and ports. */
+static void write_port(const char *words, enum vermolgas_opcode opcode, const uint8_t *data, size_t length)
+{
+    command(words, vermolgas_make_command(opcode, WRITE, data, length));
+}
+
+static void read_port(const char *words, enum vermolgas_opcode opcode, uint8_t port)
+{
+    command(words, vermolgas_make_command(opcode, READ | VERMOLGAS_OPTION_READ, &port, 1));
+}
+
+static void set_peripherals(void)
+{
+    write_port("60h: pin 12 is an output, high, open drain", VERMOLGAS_OP_GPIO_PIN_CONFIG,
+               DATA(12, VERMOLGAS_GPIO_OUTPUT, VERMOLGAS_GPIO_HIGH, VERMOLGAS_GPIO_OPEN_DRAIN));
+    write_port("61h: pull pin 12 low", VERMOLGAS_OP_GPIO_PIN, DATA(12, VERMOLGAS_GPIO_LOW));
+    read_port("60h: how is pin 12 set?", VERMOLGAS_OP_GPIO_PIN_CONFIG, 12);
+
+    write_port("65h: PWM output 2 at 25 kHz, 40 %, on", VERMOLGAS_OP_PWM_OUTPUT,
+               DATA(VERMOLGAS_PWM_OUTPUT_2, U32(25000), 40, 1));
+    read_port("65h: how is PWM output 2 set?", VERMOLGAS_OP_PWM_OUTPUT, VERMOLGAS_PWM_OUTPUT_2);
+
+    write_port("6Dh: UART 1 on, 115200 baud, 8 bits, 1 stop bit, no parity, FIFOs half full", VERMOLGAS_OP_UART,
+               DATA(1, 1, VERMOLGAS_UART_BAUD_115200, VERMOLGAS_UART_BITS_8, VERMOLGAS_UART_STOP_1,
+                    VERMOLGAS_UART_PARITY_NONE, VERMOLGAS_UART_FLOW_OFF, VERMOLGAS_UART_TRIGGER_HALF,
+                    VERMOLGAS_UART_TRIGGER_HALF, VERMOLGAS_UART_POLARITY_NORMAL, VERMOLGAS_UART_SOURCE_RXD));
+    read_port("6Dh: how is UART 1 set?", VERMOLGAS_OP_UART, 1);
 }
 
 /* A point of a map, in pixels. The tables are the host's own memory and may be looked at. */
 static void print_point(const char *words, const uint8_t *map, size_t index)
 {
-    const uint8_t *point = map + 4 * index;
+    const uint8_t *point = map + VERMOLGAS_POINT_BYTES * index;
     double x = (point[0] | point[1] << 8) / 8.0, y = (point[2] | point[3] << 8) / 8.0;
     printf("  %s point %zu is at %.1f, %.1f\n", words, index, x, y);
 }
 
-/* Moves a point of the map that is wanted, to a place in pixels. */
-static void move_point(size_t index, unsigned x, unsigned y)
+static void warp(void)
 {
-    memcpy(upload.wanted + VERMOLGAS_POINT_BYTES * index, (const uint8_t[]){POINT(x, y)}, VERMOLGAS_POINT_BYTES);
+    command("35h: control points in 3 columns and 2 rows", vermolgas_make_shape(3, 2, WRITE));
+    command("34h: the map's six points, from 0 on",
+            vermolgas_make_points(0,
+                                  POINTS(POINT(0, 0), POINT(960, 12), POINT(1919, 0), POINT(0, 1079), POINT(960, 1067),
+                                         POINT(1919, 1079)),
+                                  WRITE));
+    command("34h: read points 4 and 5 back", vermolgas_make_read_points(4, 2, READ));
+    command("36h: apply the map", vermolgas_make_apply(true, WRITE));
+    command("34h: move point 5, staged for now", vermolgas_make_points(5, POINTS(POINT(1900, 1060)), WRITE));
+    print_point("staged", device.staged, 5);
+    print_point("live", device.live, 5);
+    printf("\n");
 }
 
-/* Plans the upload of a full map, and sends the packets of the batch one by one. */
+/* Plans the upload of a full map in which some points of the staged one have moved. */
+static unsigned plan_map(void)
+{
+    static const struct {
+        size_t index;
+        struct vermolgas_point point;
+    } moves[] = {{100, POINT(1171, 35)}, {102, POINT(1233, 36)}, {110, POINT(1482, 33)}, {1983, POINT(1912, 1071)}};
+
+    unsigned status = vermolgas_upload_start(&upload, &device);
+    for (size_t i = 0; i < sizeof moves / sizeof *moves && status == VERMOLGAS_ACCEPTED; i++)
+        status = vermolgas_upload_want(&upload, moves[i].index, moves[i].point);
+    return status != VERMOLGAS_ACCEPTED ? status : vermolgas_upload_plan(&upload, VERMOLGAS_MOST_POINTS);
+}
+
+/* Sends the packets of the batch one by one. */
 static int send_map(void)
 {
-    uint64_t answer = vermolgas_plan(VERMOLGAS_MOST_POINTS, upload.held, sizeof upload.held, upload.wanted,
-                                     sizeof upload.wanted, upload.plan, sizeof upload.plan, upload.room,
-                                     sizeof upload.room, upload.batch, sizeof upload.batch);
-    if (VERMOLGAS_STATUS(answer) != VERMOLGAS_ACCEPTED) {
-        fprintf(stderr, "planning is refused with %u\n", VERMOLGAS_STATUS(answer));
+    printf("Upload: points 100, 102, 110 and 1983 are to move\n");
+    unsigned status = plan_map();
+    if (status != VERMOLGAS_ACCEPTED) {
+        fprintf(stderr, "planning is refused with %u: %s\n", status, vermolgas_refusal_text(status));
         return EXIT_FAILURE;
     }
-    size_t packets = VERMOLGAS_PLAN_PACKETS(answer), bytes = VERMOLGAS_PLAN_BYTES(answer);
-    printf("  planned: %zu packets, %zu bytes\n\n", packets, bytes);
+    printf("  planned: %zu packets, %zu bytes\n\n", upload.packets, upload.bytes);
 
-    const uint8_t *packet = upload.batch;
-    for (size_t i = 0; i < packets; i++) {
-        const uint8_t *entry = upload.plan + 4 * i;
-        size_t start = entry[0] | (size_t)entry[1] << 8, count = entry[2] | (size_t)entry[3] << 8;
-        size_t length = 6 + VERMOLGAS_POINT_BYTES * count;
-        printf("34h: %zu of the points, from %zu on\n", count, start);
-        exchange(packet, length);
-        packet += length;
+    struct vermolgas_walk walk = vermolgas_upload_walk(&upload);
+    while (vermolgas_walk_next(&walk)) {
+        printf("34h: %zu of the points, from %zu on\n", walk.count, walk.start);
+        exchange(walk.packet, walk.length);
     }
-    if (memcmp(controller.staged, upload.wanted, sizeof upload.wanted) != 0) {
+    if (memcmp(device.staged, upload.wanted, sizeof upload.wanted) != 0) {
         fprintf(stderr, "the staged map isn't the one wanted\n");
         return EXIT_FAILURE;
     }
     /* A full map fills the batch. */
-    printf("  the staged map is the one wanted: %zu bytes sent, %zu saved against the whole map's %d\n\n", bytes,
-           VERMOLGAS_BATCH_BYTES - bytes, VERMOLGAS_BATCH_BYTES);
+    printf("  the staged map is the one wanted: %zu bytes sent, %zu saved against the whole map's %d\n\n", upload.bytes,
+           VERMOLGAS_BATCH_BYTES - upload.bytes, VERMOLGAS_BATCH_BYTES);
     return EXIT_SUCCESS;
 }
 
 int main(void)
 {
-    uint64_t reset = vermolgas_reset(controller.block, sizeof controller.block, controller.staged,
-                                     sizeof controller.staged, controller.live, sizeof controller.live,
-                                     controller.gains, sizeof controller.gains);
-    if (reset != VERMOLGAS_ACCEPTED) {
-        fprintf(stderr, "reset is refused with %" PRIu64 "\n", reset);
+    unsigned status = vermolgas_device_reset(&device);
+    if (status != VERMOLGAS_ACCEPTED) {
+        fprintf(stderr, "reset is refused with %u: %s\n", status, vermolgas_refusal_text(status));
         return EXIT_FAILURE;
     }
 
-    command("11h: show the test pattern", 0x11, WRITE, DATA(1));
-    command("11h: what is shown?", 0x11, READ, NO_DATA);
-    command("13h: take look 3", 0x13, WRITE, DATA(U16(3)));
-    command("1Ah: make the curtain blue", 0x1A, WRITE, DATA(5));
+    command("11h: show the test pattern", vermolgas_make_display(VERMOLGAS_DISPLAY_TEST_PATTERN, WRITE));
+    command("11h: what is shown?", vermolgas_make_read(VERMOLGAS_OP_DISPLAY, READ));
+    command("13h: take look 3", vermolgas_make_look(3, WRITE));
+    command("1Ah: make the curtain blue", vermolgas_make_curtain(VERMOLGAS_CURTAIN_BLUE, WRITE));
+    set_peripherals();
 
-    command("60h: pin 12 is an output, high, open drain", 0x60, WRITE, DATA(12, 1, 1, 1));
-    command("61h: pull pin 12 low", 0x61, WRITE, DATA(12, 0));
-    command("60h: how is pin 12 set?", 0x60, READ, DATA(12));
-
-    command("65h: PWM output 2 at 25 kHz, 40 %, on", 0x65, WRITE, DATA(2, U32(25000), 40, 1));
-    command("65h: how is PWM output 2 set?", 0x65, READ, DATA(2));
-
-    command("6Dh: UART 1 on, 115200 baud, 8 bits, 1 stop bit, no parity, FIFOs half full", 0x6D, WRITE,
-            DATA(1, 1, 8, 3, 0, 0, 0, 2, 2, 0, 0));
-    command("6Dh: how is UART 1 set?", 0x6D, READ, DATA(1));
-
-    command("35h: control points in 3 columns and 2 rows", 0x35, WRITE, DATA(0, U16(3), U16(2)));
-    command("34h: the map's six points, from 0 on", 0x34, WRITE,
-            DATA(U16(0), POINT(0, 0), POINT(960, 12), POINT(1919, 0), POINT(0, 1079), POINT(960, 1067),
-                 POINT(1919, 1079)));
-    command("34h: read points 4 and 5 back", 0x34, READ, DATA(U16(4), U16(2)));
-    command("36h: apply the map", 0x36, WRITE, DATA(1));
-    command("34h: move point 5, staged for now", 0x34, WRITE, DATA(U16(5), POINT(1900, 1060)));
-    print_point("staged", controller.staged, 5);
-    print_point("live", controller.live, 5);
-    printf("\n");
-
-    command("35h: control points in 62 columns and 32 rows", 0x35, WRITE, DATA(0, U16(62), U16(32)));
-    printf("Upload: points 100, 102, 110 and 1983 are to move\n");
-    memcpy(upload.held, controller.staged, sizeof upload.held);
-    memcpy(upload.wanted, upload.held, sizeof upload.wanted);
-    move_point(100, 1171, 35);
-    move_point(102, 1233, 36);
-    move_point(110, 1482, 33);
-    move_point(1983, 1912, 1071);
+    warp();
+    command("35h: control points in 62 columns and 32 rows", vermolgas_make_shape(62, 32, WRITE));
     if (send_map() != EXIT_SUCCESS)
         return EXIT_FAILURE;
-    command("34h: read points 100 to 102 back", 0x34, READ, DATA(U16(100), U16(3)));
-    command("34h: read point 1983 back", 0x34, READ, DATA(U16(1983), U16(1)));
-    command("35h: control points in 3 columns and 2 rows again", 0x35, WRITE, DATA(0, U16(3), U16(2)));
+    command("34h: read points 100 to 102 back", vermolgas_make_read_points(100, 3, READ));
+    command("34h: read point 1983 back", vermolgas_make_read_points(1983, 1, READ));
+    command("35h: control points in 3 columns and 2 rows again", vermolgas_make_shape(3, 2, WRITE));
 
     /* Gains are in units of 1/4096. */
-    command("2Bh: two red gains of 1.25, from 100 on", 0x2B, WRITE, DATA(0, 1, U16(2), U16(100), U16(5120), U16(5120)));
-    command("2Bh: read red gains 99 to 102 back", 0x2B, READ, DATA(1, U16(99), U16(4)));
+    command("2Bh: two red gains of 1.25, from 100 on",
+            vermolgas_make_gains(VERMOLGAS_GAIN_RED, 100, GAINS(5120, 5120), WRITE));
+    command("2Bh: read red gains 99 to 102 back", vermolgas_make_read_gains(VERMOLGAS_GAIN_RED, 99, 4, READ));
 
-    command("11h: there is no display 5", 0x11, WRITE, DATA(5));
-    command("34h: the map has no point 6", 0x34, WRITE, DATA(U16(6), POINT(0, 0)));
+    command("11h: there is no display 5", vermolgas_make_display((enum vermolgas_display)5, WRITE));
+    command("34h: the map has no point 6", vermolgas_make_points(6, POINTS(POINT(0, 0)), WRITE));
     printf("11h: a packet with a bit flipped on the way\n");
     exchange(DATA(0x74, 0x11, 0x01, 0x00, 0x03, 0x87));
-    command("11h: what is shown?", 0x11, READ, NO_DATA);
+    command("11h: what is shown?", vermolgas_make_read(VERMOLGAS_OP_DISPLAY, READ));
     return EXIT_SUCCESS;
 }

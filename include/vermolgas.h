@@ -13,10 +13,11 @@
  * Every answer is one number. Its low byte is 0 if the call was accepted, else the number of the refusal: take it out
  * with VERMOLGAS_STATUS, for the other bits of a refusal are reserved. After a refusal every buffer is unchanged;
  * vermolgas_packet alone still writes its reply, and answers its length. The macros below take an answer apart; each
- * uses its argument once.
+ * uses its argument once. Keep an answer in a uint64_t: compilers warn where one is ignored, the macros do not compile
+ * on fewer bits, and -Wconversion warns where bits are lost.
  *
- * docs/INTERFACE.md has the commands and what each may carry, docs/LAYOUT.md the settings block, docs/RULES.md the
- * rules.
+ * vermolgas_device.h lends all of it in one argument, and answers in structs. docs/INTERFACE.md has the commands and
+ * what each may carry, docs/LAYOUT.md the settings block, docs/RULES.md the rules.
  */
 #ifndef VERMOLGAS_H
 #define VERMOLGAS_H
@@ -24,12 +25,38 @@
 #include <stddef.h>
 #include <stdint.h>
 
+/* The version, and as one number to compare with: 1.2.3 is 10203. */
+#define VERMOLGAS_VERSION_MAJOR 0
+#define VERMOLGAS_VERSION_MINOR 1
+#define VERMOLGAS_VERSION_PATCH 0
+#define VERMOLGAS_VERSION                                                                                             \
+    (10000 * VERMOLGAS_VERSION_MAJOR + 100 * VERMOLGAS_VERSION_MINOR + VERMOLGAS_VERSION_PATCH)
+
+/* In front of a function: its answer is not to be ignored. */
+#if (defined(__cplusplus) && __cplusplus >= 201703L) || (defined(__STDC_VERSION__) && __STDC_VERSION__ > 201710L)
+#define VERMOLGAS_NODISCARD [[nodiscard]]
+#elif defined(__GNUC__)
+#define VERMOLGAS_NODISCARD __attribute__((warn_unused_result))
+#else
+#define VERMOLGAS_NODISCARD
+#endif
+
+/* A cast, and an enum, that are right in both languages. In C++ an enum is given its type, so that it may hold any
+ * number, as in C, and a wrong one is refused instead of undefined. */
+#ifdef __cplusplus
+#define VERMOLGAS_CAST(type, value) static_cast<type>(value)
+#define VERMOLGAS_ENUM(name)        enum name : unsigned
+#else
+#define VERMOLGAS_CAST(type, value) ((type)(value))
+#define VERMOLGAS_ENUM(name)        enum name
+#endif
+
 #ifdef __cplusplus
 extern "C" {
 #endif
 
 /* Refusals, in the order in which vermolgas_packet tries them. */
-enum vermolgas_refusal {
+VERMOLGAS_ENUM(vermolgas_refusal) {
     VERMOLGAS_ACCEPTED = 0,
     VERMOLGAS_REFUSED_LENT = 1,           /* wrong length of what is lent, or a setting out of range */
     VERMOLGAS_REFUSED_TOO_SHORT = 2,      /* fewer bytes than the header announces, or none */
@@ -44,6 +71,145 @@ enum vermolgas_refusal {
     VERMOLGAS_REFUSED_NOT_CARRIED = 11,   /* merge mode, compressed gains */
     VERMOLGAS_REFUSED_PAST_TABLE = 12     /* start + count past the end of their table */
 };
+
+/* The commands carried, with the guides' names. */
+VERMOLGAS_ENUM(vermolgas_opcode) {
+    VERMOLGAS_OP_DISPLAY = 0x11,           /* Display */
+    VERMOLGAS_OP_LOW_LATENCY = 0x12,       /* Enable Low Latency Mode */
+    VERMOLGAS_OP_LOOK = 0x13,              /* System Look */
+    VERMOLGAS_OP_CURTAIN = 0x1A,           /* Curtain Color */
+    VERMOLGAS_OP_SPLASH = 0x1B,            /* Splash Load Image */
+    VERMOLGAS_OP_FLIP = 0x1C,              /* Enable Image Flip */
+    VERMOLGAS_OP_FREEZE = 0x1D,            /* Enable Freeze */
+    VERMOLGAS_OP_GAINS = 0x2B,             /* Blend Map Gain Values */
+    VERMOLGAS_OP_WARP_TABLE = 0x34,        /* Manual Warp Table */
+    VERMOLGAS_OP_CONTROL_POINTS = 0x35,    /* Manual Warp Control Points */
+    VERMOLGAS_OP_APPLY_WARPING = 0x36,     /* Apply Manual Warping */
+    VERMOLGAS_OP_SMOOTH_WARP_TABLE = 0x38, /* Smooth Warp Table */
+    VERMOLGAS_OP_UPDATE_MODE = 0x39,       /* Manual Warp Table Update Mode */
+    VERMOLGAS_OP_GPIO_PIN_CONFIG = 0x60,   /* GPIO Pin Config */
+    VERMOLGAS_OP_GPIO_PIN = 0x61,          /* GPIO Pin */
+    VERMOLGAS_OP_PWM_OUTPUT = 0x65,        /* PWM Output Configuration */
+    VERMOLGAS_OP_EEPROM_LOCK = 0x6C,       /* EEPROM Lock State */
+    VERMOLGAS_OP_UART = 0x6D               /* UART Configuration */
+};
+
+/* Values that have names. What the guides name and a packet may not carry is left out; the comments say where. */
+
+/* 11h: what is shown. */
+VERMOLGAS_ENUM(vermolgas_display) {
+    VERMOLGAS_DISPLAY_EXTERNAL = 0,
+    VERMOLGAS_DISPLAY_TEST_PATTERN = 1,
+    VERMOLGAS_DISPLAY_SOLID_FIELD = 2,
+    VERMOLGAS_DISPLAY_SPLASH = 3,
+    VERMOLGAS_DISPLAY_CURTAIN = 4
+};
+
+/* 1Ah: the curtain's colour. 1, 9 and 10 are reserved: refusal 10. */
+VERMOLGAS_ENUM(vermolgas_curtain) {
+    VERMOLGAS_CURTAIN_BLACK = 0,
+    VERMOLGAS_CURTAIN_WHITE = 2,
+    VERMOLGAS_CURTAIN_GREEN = 3,
+    VERMOLGAS_CURTAIN_RED = 4,
+    VERMOLGAS_CURTAIN_BLUE = 5,
+    VERMOLGAS_CURTAIN_YELLOW = 6,
+    VERMOLGAS_CURTAIN_CYAN = 7,
+    VERMOLGAS_CURTAIN_MAGENTA = 8
+};
+
+/* 1Bh: the splash image that was captured; the others count from 0. */
+#define VERMOLGAS_SPLASH_CAPTURED 0xFF
+
+/* 1Ch: how the image is flipped. */
+VERMOLGAS_ENUM(vermolgas_flip) {
+    VERMOLGAS_FLIP_NONE = 0,
+    VERMOLGAS_FLIP_VERTICAL = 1,
+    VERMOLGAS_FLIP_HORIZONTAL = 2,
+    VERMOLGAS_FLIP_BOTH = 3
+};
+
+/* 2Bh: whose gains. All three at once is for writes; a read of it is refusal 10. Compressed gains are refusal 11. */
+VERMOLGAS_ENUM(vermolgas_gain_colour) {
+    VERMOLGAS_GAIN_ALL = 0,
+    VERMOLGAS_GAIN_RED = 1,
+    VERMOLGAS_GAIN_GREEN = 2,
+    VERMOLGAS_GAIN_BLUE = 3
+};
+
+#define VERMOLGAS_GAIN_ONE     4096 /* a gain of 1.0 */
+#define VERMOLGAS_GAIN_HIGHEST 8191
+
+/* 35h: control points evenly over the image, in columns and rows; or 62 and 32 listed. */
+VERMOLGAS_ENUM(vermolgas_control_points) {
+    VERMOLGAS_CONTROL_POINTS_EVEN = 0,
+    VERMOLGAS_CONTROL_POINTS_LISTED = 1
+};
+
+/* 39h: a new map takes the place of the old one. To merge them, 1, is refusal 11. */
+VERMOLGAS_ENUM(vermolgas_update_mode) { VERMOLGAS_UPDATE_OVERWRITE = 0 };
+
+/* 60h and 61h: direction, level and drain of pins 0 to 87. */
+VERMOLGAS_ENUM(vermolgas_gpio_direction) { VERMOLGAS_GPIO_INPUT = 0, VERMOLGAS_GPIO_OUTPUT = 1 };
+VERMOLGAS_ENUM(vermolgas_gpio_level) { VERMOLGAS_GPIO_LOW = 0, VERMOLGAS_GPIO_HIGH = 1 };
+VERMOLGAS_ENUM(vermolgas_gpio_drain) { VERMOLGAS_GPIO_STANDARD = 0, VERMOLGAS_GPIO_OPEN_DRAIN = 1 };
+
+/* 65h: outputs, colour wheels, and the port of Dynamic Black where that does not use it. The inputs, 11 and 12, and the
+ * invalid port, 14, are refusal 10. */
+VERMOLGAS_ENUM(vermolgas_pwm_port) {
+    VERMOLGAS_PWM_OUTPUT_0 = 0,
+    VERMOLGAS_PWM_OUTPUT_1 = 1,
+    VERMOLGAS_PWM_OUTPUT_2 = 2,
+    VERMOLGAS_PWM_OUTPUT_3 = 3,
+    VERMOLGAS_PWM_OUTPUT_4 = 4,
+    VERMOLGAS_PWM_OUTPUT_5 = 5,
+    VERMOLGAS_PWM_OUTPUT_6 = 6,
+    VERMOLGAS_PWM_OUTPUT_7 = 7,
+    VERMOLGAS_PWM_WHEEL_0 = 8,
+    VERMOLGAS_PWM_WHEEL_1 = 9,
+    VERMOLGAS_PWM_WHEEL_2 = 10,
+    VERMOLGAS_PWM_DYNAMIC_BLACK = 13
+};
+
+/* 6Ch. */
+VERMOLGAS_ENUM(vermolgas_eeprom) { VERMOLGAS_EEPROM_UNLOCKED = 0, VERMOLGAS_EEPROM_LOCKED = 1 };
+
+/* 6Dh: fields of ports 0 to 2, in the order of the data. */
+VERMOLGAS_ENUM(vermolgas_uart_baud) {
+    VERMOLGAS_UART_BAUD_1200 = 0,
+    VERMOLGAS_UART_BAUD_2400 = 1,
+    VERMOLGAS_UART_BAUD_4800 = 2,
+    VERMOLGAS_UART_BAUD_9600 = 3,
+    VERMOLGAS_UART_BAUD_14400 = 4,
+    VERMOLGAS_UART_BAUD_19200 = 5,
+    VERMOLGAS_UART_BAUD_38400 = 6,
+    VERMOLGAS_UART_BAUD_57600 = 7,
+    VERMOLGAS_UART_BAUD_115200 = 8,
+    VERMOLGAS_UART_BAUD_230400 = 9,
+    VERMOLGAS_UART_BAUD_460800 = 10,
+    VERMOLGAS_UART_BAUD_921600 = 11
+};
+VERMOLGAS_ENUM(vermolgas_uart_bits) {
+    VERMOLGAS_UART_BITS_5 = 0,
+    VERMOLGAS_UART_BITS_6 = 1,
+    VERMOLGAS_UART_BITS_7 = 2,
+    VERMOLGAS_UART_BITS_8 = 3
+};
+VERMOLGAS_ENUM(vermolgas_uart_stop) { VERMOLGAS_UART_STOP_1 = 0, VERMOLGAS_UART_STOP_2 = 1 };
+VERMOLGAS_ENUM(vermolgas_uart_parity) {
+    VERMOLGAS_UART_PARITY_NONE = 0,
+    VERMOLGAS_UART_PARITY_EVEN = 1,
+    VERMOLGAS_UART_PARITY_ODD = 2
+};
+VERMOLGAS_ENUM(vermolgas_uart_flow) { VERMOLGAS_UART_FLOW_OFF = 0, VERMOLGAS_UART_FLOW_HARDWARE = 1 };
+VERMOLGAS_ENUM(vermolgas_uart_trigger) { /* of receiving, then of sending: how full the FIFO is */
+    VERMOLGAS_UART_TRIGGER_EIGHTH = 0,
+    VERMOLGAS_UART_TRIGGER_QUARTER = 1,
+    VERMOLGAS_UART_TRIGGER_HALF = 2,
+    VERMOLGAS_UART_TRIGGER_THREE_QUARTERS = 3,
+    VERMOLGAS_UART_TRIGGER_SEVEN_EIGHTHS = 4
+};
+VERMOLGAS_ENUM(vermolgas_uart_polarity) { VERMOLGAS_UART_POLARITY_NORMAL = 0, VERMOLGAS_UART_POLARITY_INVERTED = 1 };
+VERMOLGAS_ENUM(vermolgas_uart_source) { VERMOLGAS_UART_SOURCE_RXD = 0, VERMOLGAS_UART_SOURCE_LAMPSTAT = 1 };
 
 /* The longest packet and the longest reply, in bytes. */
 #define VERMOLGAS_LONGEST 512
@@ -68,8 +234,15 @@ enum vermolgas_refusal {
 #define VERMOLGAS_OPTION_REPLY           0x40 /* a write is to be replied to */
 #define VERMOLGAS_OPTION_READ            0x80 /* a read; else a write */
 
+/* Some bits of an answer. One that was kept in fewer than 64 bits, in an int say, has lost some of them and does not
+ * compile here: the array would have a negative size. */
+#define VERMOLGAS_ANSWER_OF_64_BITS(answer)                                                                           \
+    (VERMOLGAS_CAST(uint64_t, answer) + (sizeof(char[sizeof(answer) == 8 ? 1 : -1]) - 1))
+#define VERMOLGAS_FIELD(type, answer, shift, mask)                                                                    \
+    VERMOLGAS_CAST(type, VERMOLGAS_ANSWER_OF_64_BITS(answer) >> (shift) & (mask))
+
 /* Any answer: 0 or the refusal. */
-#define VERMOLGAS_STATUS(answer) ((unsigned)((uint64_t)(answer) & 0xFF))
+#define VERMOLGAS_STATUS(answer) VERMOLGAS_FIELD(unsigned, answer, 0, 0xFFu)
 
 /* Puts a controller into its state after reset: zeros everywhere, but each gain 4096 (1.0), the warp map's shape
  * 62 x 32 and mode 0 on both sides, staged and live, control point lists counting from 0, the smooth table's shape
@@ -78,6 +251,7 @@ enum vermolgas_refusal {
  * The lengths are VERMOLGAS_BLOCK_BYTES, VERMOLGAS_MAP_BYTES twice and VERMOLGAS_GAINS_BYTES, exactly. Any other is
  * refusal 1, and no byte is changed.
  */
+VERMOLGAS_NODISCARD
 uint64_t vermolgas_reset(uint8_t *block, size_t block_length, uint8_t *staged, size_t staged_length, uint8_t *live,
                          size_t live_length, uint8_t *gains, size_t gains_length);
 
@@ -91,26 +265,29 @@ uint64_t vermolgas_reset(uint8_t *block, size_t block_length, uint8_t *staged, s
  * byte of the block and of the tables. Block bytes without a meaning, 865 to 1023, stay as they are.
  *
  * There is a reply, at the start of the reply buffer, exactly if the packet is not empty, bit 6 or bit 7 of its first
- * byte is set, and the refusal is not 1. It is the status, the length of the data in two bytes, the data of an accepted read,
- * and a checksum if bit 5 of the packet is set; vermolgas_read_reply reads it back. The buffer past the reply is
- * unchanged, and all of it if no reply is written. The answer has the reply's length, 0 for none, on a refusal too.
+ * byte is set, and the refusal is not 1. It is the status, the length of the data in two bytes, the data of an
+ * accepted read, and a checksum if bit 5 of the packet is set; vermolgas_read_reply reads it back. The buffer past the
+ * reply is unchanged, and all of it if no reply is written. The answer has the reply's length, 0 for none, on a refusal
+ * too.
  */
+VERMOLGAS_NODISCARD
 uint64_t vermolgas_packet(const uint8_t *packet, size_t packet_length, uint8_t *block, size_t block_length,
                           uint8_t *staged, size_t staged_length, uint8_t *live, size_t live_length, uint8_t *gains,
                           size_t gains_length, uint8_t *reply, size_t reply_length);
 
-#define VERMOLGAS_PACKET_REPLY_LENGTH(answer) ((size_t)((uint64_t)(answer) >> 8 & 0xFFFF))
+#define VERMOLGAS_PACKET_REPLY_LENGTH(answer) VERMOLGAS_FIELD(size_t, answer, 8, 0xFFFFu)
 
 /* Reads one packet, the whole slice given, apart from any settings. Refusals 2 to 11.
  *
  * The answer has the opcode, the header bits 3 to 7 in place, and the offset and length of the data in the packet.
  */
+VERMOLGAS_NODISCARD
 uint64_t vermolgas_read(const uint8_t *packet, size_t packet_length);
 
-#define VERMOLGAS_READ_OPCODE(answer)  ((unsigned)((uint64_t)(answer) >> 8 & 0xFF))
-#define VERMOLGAS_READ_OPTIONS(answer) ((unsigned)((uint64_t)(answer) >> 16 & 0xFF))
-#define VERMOLGAS_READ_OFFSET(answer)  ((size_t)((uint64_t)(answer) >> 24 & 0xFF))
-#define VERMOLGAS_READ_LENGTH(answer)  ((size_t)((uint64_t)(answer) >> 32 & 0xFFFF))
+#define VERMOLGAS_READ_OPCODE(answer)  VERMOLGAS_FIELD(unsigned, answer, 8, 0xFFu)
+#define VERMOLGAS_READ_OPTIONS(answer) VERMOLGAS_FIELD(unsigned, answer, 16, 0xFFu)
+#define VERMOLGAS_READ_OFFSET(answer)  VERMOLGAS_FIELD(size_t, answer, 24, 0xFFu)
+#define VERMOLGAS_READ_LENGTH(answer)  VERMOLGAS_FIELD(size_t, answer, 32, 0xFFFFu)
 
 /* Makes a packet at the start of the buffer; the buffer past it is unchanged.
  *
@@ -119,10 +296,11 @@ uint64_t vermolgas_read(const uint8_t *packet, size_t packet_length);
  * reading would give: 3, 7 (any opcode over 255 too), 8, 9, 10 or 11. The answer has the packet's length, 0 on a
  * refusal. What is made, vermolgas_read reads back as it was given.
  */
+VERMOLGAS_NODISCARD
 uint64_t vermolgas_make(uint16_t opcode, uint8_t options, const uint8_t *data, size_t data_length, uint8_t *buffer,
                         size_t buffer_length);
 
-#define VERMOLGAS_MAKE_LENGTH(answer) ((size_t)((uint64_t)(answer) >> 8 & 0xFFFF))
+#define VERMOLGAS_MAKE_LENGTH(answer) VERMOLGAS_FIELD(size_t, answer, 8, 0xFFFFu)
 
 /* Reads one reply, the whole slice given. checksum_expected is 0 for no, any other number for yes: what the packet's
  * header asked for. Refusals 2, 3, 4, 5 and 10 (a status over 12), in this order.
@@ -130,11 +308,12 @@ uint64_t vermolgas_make(uint16_t opcode, uint8_t options, const uint8_t *data, s
  * The answer has the reply's own status, 0 or a refusal of the front end, and the length of the data, which starts at
  * offset VERMOLGAS_REPLY_OFFSET of the reply.
  */
+VERMOLGAS_NODISCARD
 uint64_t vermolgas_read_reply(const uint8_t *reply, size_t reply_length, uint8_t checksum_expected);
 
 #define VERMOLGAS_REPLY_OFFSET         3
-#define VERMOLGAS_REPLY_STATUS(answer) ((unsigned)((uint64_t)(answer) >> 8 & 0xFF))
-#define VERMOLGAS_REPLY_LENGTH(answer) ((size_t)((uint64_t)(answer) >> 16 & 0xFFFF))
+#define VERMOLGAS_REPLY_STATUS(answer) VERMOLGAS_FIELD(unsigned, answer, 8, 0xFFu)
+#define VERMOLGAS_REPLY_LENGTH(answer) VERMOLGAS_FIELD(size_t, answer, 16, 0xFFFFu)
 
 /* Plans the upload of a map: the 34h writes that turn the points held into those wanted, in the fewest bytes. No list
  * of packets that does so, whatever its packets are, has fewer bytes than the answer gives.
@@ -155,12 +334,13 @@ uint64_t vermolgas_read_reply(const uint8_t *reply, size_t reply_length, uint8_t
  * The room has at each index below N the fewest bytes for the points from there on, and 0 from N on. Plan and batch
  * are unchanged past the packets that the answer counts.
  */
+VERMOLGAS_NODISCARD
 uint64_t vermolgas_plan(uint32_t points, const uint8_t *held, size_t held_length, const uint8_t *wanted,
                         size_t wanted_length, uint8_t *plan, size_t plan_length, uint8_t *room, size_t room_length,
                         uint8_t *batch, size_t batch_length);
 
-#define VERMOLGAS_PLAN_PACKETS(answer) ((size_t)((uint64_t)(answer) >> 8 & 0xFFFFFF))
-#define VERMOLGAS_PLAN_BYTES(answer)   ((size_t)((uint64_t)(answer) >> 32))
+#define VERMOLGAS_PLAN_PACKETS(answer) VERMOLGAS_FIELD(size_t, answer, 8, 0xFFFFFFu)
+#define VERMOLGAS_PLAN_BYTES(answer)   VERMOLGAS_FIELD(size_t, answer, 32, 0xFFFFFFFFu)
 
 #ifdef __cplusplus
 }

@@ -1,25 +1,13 @@
 /* Every entry on buffers that were allocated with the exact length that is lent: short, odd, empty and right ones.
  *
- * Run under valgrind, which sees each byte read or written outside of them, and with the C side under AddressSanitizer (the library is not instrumented).
+ * Run under valgrind, which sees each byte read or written outside of them, and with the C side under AddressSanitizer
+ * (the library is not instrumented).
  */
+#include "check.h"
 #include "vermolgas.h"
 
 #include <stdbool.h>
-#include <stdio.h>
-#include <stdlib.h>
 #include <string.h>
-
-/* Of the group that is running. */
-static unsigned checks, faults;
-
-#define CHECK(holds) check((holds), #holds, __LINE__)
-
-static void check(bool holds, const char *what, int line)
-{
-    checks++;
-    if (!holds && ++faults <= 5)
-        printf("  boundary.c:%d: %s\n", line, what);
-}
 
 /* A buffer of its own allocation, and what it held at first. */
 struct buffer {
@@ -484,29 +472,13 @@ static void refuse_plans(void)
     }
 }
 
-static const struct {
-    const char *name;
-    void (*run)(void);
-} groups[] = {
+static const struct group groups[] = {
     {"right buffers", right_buffers}, {"wrong buffers", wrong_buffers}, {"cut packets", cut_packets},
-    {"making", make_packets},         {"replies", read_replies},    {"plans", plan_uploads},
+    {"making", make_packets},         {"replies", read_replies},        {"plans", plan_uploads},
     {"plans refused", refuse_plans},
 };
 
 int main(void)
 {
-    unsigned passed = 0, failed = 0;
-    for (size_t i = 0; i < sizeof groups / sizeof *groups; i++) {
-        checks = faults = 0;
-        groups[i].run();
-        if (faults == 0) {
-            passed++;
-            printf("ok %s: %u checks\n", groups[i].name, checks);
-        } else {
-            failed++;
-            printf("FAILED %s: %u of %u checks\n", groups[i].name, faults, checks);
-        }
-    }
-    printf("%u passed, %u failed\n", passed, failed);
-    return failed == 0 ? EXIT_SUCCESS : EXIT_FAILURE;
+    return RUN_GROUPS(groups);
 }

@@ -1,23 +1,8 @@
 /* The header as a C11 host uses it: bench packets (docs/RULES.md, rule 8.1) through the entries and macros. */
+#include "check.h"
 #include "vermolgas.h"
 
-#include <stdio.h>
 #include <string.h>
-
-static unsigned passed, failed;
-
-/* Counts one check, and says which line failed. */
-#define CHECK(holds) check((holds), #holds, __LINE__)
-
-static void check(int holds, const char *what, int line)
-{
-    if (holds) {
-        passed++;
-    } else {
-        failed++;
-        printf("FAILED header.c:%d: %s\n", line, what);
-    }
-}
 
 /* A packet or reply with its length, from a list of bytes. */
 #define BYTES(...) (const uint8_t[]){__VA_ARGS__}, sizeof((const uint8_t[]){__VA_ARGS__})
@@ -262,16 +247,13 @@ static void plan_uploads(void)
     CHECK(vermolgas_plan(0, NULL, 0, NULL, 0, NULL, 0, NULL, 0, NULL, 0) == VERMOLGAS_REFUSED_RANGE);
 }
 
+static const struct group groups[] = {
+    {"reset", reset_controllers}, {"packets", send_packets},        {"packets refused", refuse_sent_packets},
+    {"reading", read_packets},    {"reading refused", refuse_packets}, {"making", make_packets},
+    {"replies", read_replies},    {"plans", plan_uploads},
+};
+
 int main(void)
 {
-    reset_controllers();
-    send_packets();
-    refuse_sent_packets();
-    read_packets();
-    refuse_packets();
-    make_packets();
-    read_replies();
-    plan_uploads();
-    printf("%u passed, %u failed\n", passed, failed);
-    return failed == 0 ? 0 : 1;
+    return RUN_GROUPS(groups);
 }

@@ -1,0 +1,516 @@
+/* Vermolgas with a device in one argument: a thin layer over vermolgas.h, for C (C99 on) and C++ (C++11 on).
+ *
+ * What is lent together is one struct, so nothing can be swapped or lent with a wrong length, and what is answered
+ * together is another, whose fields have names. A function that answers a status alone answers 0 if it was accepted,
+ * else the number of the refusal.
+ *
+ * Every function takes any argument. NULL where something is lent is refusal 1, as a wrong length is, and a number that
+ * does not fit its field is refusal 10; else the entries decide. The number is the first that applies, and then nothing
+ * is written. What the caller sees to is what vermolgas.h says: a pointer is to as many bytes as the length behind it
+ * says, and what is written overlaps nothing else that is lent.
+ *
+ * Names that end in an underscore are the layer's own.
+ */
+#ifndef VERMOLGAS_DEVICE_H
+#define VERMOLGAS_DEVICE_H
+
+#include "vermolgas.h"
+
+#include <string.h>
+#ifndef __cplusplus
+#include <stdbool.h>
+#endif
+
+#define VERMOLGAS_INLINE_ VERMOLGAS_NODISCARD static inline
+
+/* One line of words for a status, for any number. */
+VERMOLGAS_INLINE_ const char *vermolgas_refusal_text(unsigned number)
+{
+    switch (number) {
+    case VERMOLGAS_ACCEPTED: return "accepted";
+    case VERMOLGAS_REFUSED_LENT: return "a lent length is wrong, or a stored setting is out of range";
+    case VERMOLGAS_REFUSED_TOO_SHORT: return "the packet is too short";
+    case VERMOLGAS_REFUSED_TOO_LONG: return "the packet is too long";
+    case VERMOLGAS_REFUSED_LENGTH: return "the length field differs from the data";
+    case VERMOLGAS_REFUSED_CHECKSUM: return "the checksum differs";
+    case VERMOLGAS_REFUSED_DESTINATION: return "the destination isn't 4";
+    case VERMOLGAS_REFUSED_OPCODE: return "no such command";
+    case VERMOLGAS_REFUSED_LENGTH_MISSING: return "this write needs a length field";
+    case VERMOLGAS_REFUSED_SIZE: return "the data has the wrong size";
+    case VERMOLGAS_REFUSED_RANGE: return "a value is out of range";
+    case VERMOLGAS_REFUSED_NOT_CARRIED: return "not carried";
+    case VERMOLGAS_REFUSED_PAST_TABLE: return "start and count run past the table";
+    default: return "no such refusal";
+    }
+}
+
+/* A device: all that is kept for one controller. vermolgas_device_reset has to come first. */
+struct vermolgas_device {
+    uint8_t block[VERMOLGAS_BLOCK_BYTES];
+    uint8_t staged[VERMOLGAS_MAP_BYTES];
+    uint8_t live[VERMOLGAS_MAP_BYTES];
+    uint8_t gains[VERMOLGAS_GAINS_BYTES];
+};
+
+/* Room for every reply. */
+struct vermolgas_reply {
+    uint8_t bytes[VERMOLGAS_REPLY_BYTES];
+};
+
+/* What came of a packet that was sent to a device. */
+struct vermolgas_result {
+    unsigned status;       /* 0, or the refusal of the packet */
+    size_t reply_length;   /* of the whole reply, 0 if there is none */
+    const uint8_t *data;   /* what an accepted read returned, in the reply; NULL if there is nothing */
+    size_t data_length;
+    /* The place of a fault, on refusal 10, will be a field here: data is for accepted reads alone. */
+};
+
+/* What stands in the bytes of a reply that came over a line. */
+struct vermolgas_reply_result {
+    unsigned line_status;   /* 0, or why these bytes are no reply: 1 to 5, 10 */
+    unsigned device_status; /* the reply's own: 0, or the refusal of the packet; that of the line, if it is no reply */
+    const uint8_t *data;    /* as above */
+    size_t data_length;
+};
+
+/* Puts the device into its state after reset. Status 0; 1 for NULL. */
+VERMOLGAS_INLINE_ unsigned vermolgas_device_reset(struct vermolgas_device *device)
+{
+    if (device == NULL)
+        return VERMOLGAS_REFUSED_LENT;
+    return VERMOLGAS_STATUS(vermolgas_reset(device->block, sizeof device->block, device->staged, sizeof device->staged,
+                                            device->live, sizeof device->live, device->gains, sizeof device->gains));
+}
+
+/* Reads a reply of so many bytes. checksum is what its packet asked for. device_status is 0 only if the packet was
+ * accepted, so one test of it is enough; line_status tells whether to ask again. */
+VERMOLGAS_INLINE_ struct vermolgas_reply_result vermolgas_reply_read(const struct vermolgas_reply *reply,
+                                                                     size_t length, bool checksum)
+{
+    struct vermolgas_reply_result result = {VERMOLGAS_REFUSED_LENT, VERMOLGAS_REFUSED_LENT, NULL, 0};
+    uint64_t read;
+
+    if (reply == NULL)
+        return result;
+    read = length > sizeof reply->bytes ? VERMOLGAS_CAST(uint64_t, VERMOLGAS_REFUSED_TOO_LONG)
+                                        : vermolgas_read_reply(reply->bytes, length, checksum ? 1 : 0);
+    result.line_status = result.device_status = VERMOLGAS_STATUS(read);
+    if (result.line_status != VERMOLGAS_ACCEPTED)
+        return result;
+    result.device_status = VERMOLGAS_REPLY_STATUS(read);
+    if (result.device_status == VERMOLGAS_ACCEPTED && VERMOLGAS_REPLY_LENGTH(read) > 0) {
+        result.data = reply->bytes + VERMOLGAS_REPLY_OFFSET;
+        result.data_length = VERMOLGAS_REPLY_LENGTH(read);
+    }
+    return result;
+}
+
+/* Hands the device one packet of so many bytes, and takes its reply apart. */
+VERMOLGAS_INLINE_ struct vermolgas_result vermolgas_device_send(struct vermolgas_device *device, const uint8_t *packet,
+                                                                size_t length, struct vermolgas_reply *reply)
+{
+    struct vermolgas_result result = {VERMOLGAS_REFUSED_LENT, 0, NULL, 0};
+    uint64_t answer;
+
+    if (device == NULL || reply == NULL || (packet == NULL && length > 0))
+        return result;
+    answer = vermolgas_packet(packet, length, device->block, sizeof device->block, device->staged,
+                              sizeof device->staged, device->live, sizeof device->live, device->gains,
+                              sizeof device->gains, reply->bytes, sizeof reply->bytes);
+    result.status = VERMOLGAS_STATUS(answer);
+    result.reply_length = VERMOLGAS_PACKET_REPLY_LENGTH(answer);
+    if (result.reply_length > 0) { /* and so the packet has a first byte */
+        struct vermolgas_reply_result read =
+            vermolgas_reply_read(reply, result.reply_length, (packet[0] & VERMOLGAS_OPTION_CHECKSUM) != 0);
+        result.data = read.data;
+        result.data_length = read.data_length;
+    }
+    return result;
+}
+
+/* A packet to be sent. One that was not made has no bytes, and is refused with 2 if it is sent all the same. */
+struct vermolgas_command {
+    unsigned status; /* 0, or why it was not made */
+    size_t length;
+    uint8_t bytes[VERMOLGAS_LONGEST];
+    /* The place of a fault, on refusal 10, will be a field here. */
+};
+
+/* Options of a line that loses bytes: checksums both ways, and a reply. */
+#define VERMOLGAS_OPTIONS_CHECKED (VERMOLGAS_OPTION_CHECKSUM | VERMOLGAS_OPTION_REPLY)
+
+/* A point, in eighths of a pixel. */
+struct vermolgas_point {
+    uint16_t x, y;
+};
+
+/* The most points and gains that one write, and that one read, can carry. */
+#define VERMOLGAS_WRITE_POINTS 126
+#define VERMOLGAS_WRITE_GAINS  251
+#define VERMOLGAS_READ_POINTS  127
+#define VERMOLGAS_READ_GAINS   254
+
+/* Data under writing: what is filled, and the first refusal that applies, which is the lowest. */
+struct vermolgas_data_ {
+    unsigned status;
+    size_t length;
+    uint8_t bytes[VERMOLGAS_LONGEST];
+};
+
+VERMOLGAS_INLINE_ struct vermolgas_data_ vermolgas_no_data_(void)
+{
+    struct vermolgas_data_ data;
+    memset(&data, 0, sizeof data);
+    return data;
+}
+
+static inline void vermolgas_refuse_(struct vermolgas_data_ *data, unsigned status)
+{
+    if (data->status == VERMOLGAS_ACCEPTED || data->status > status)
+        data->status = status;
+}
+
+/* For a list, of which so many items fit a packet. */
+VERMOLGAS_INLINE_ struct vermolgas_data_ vermolgas_data_for_(const void *list, size_t count, size_t most)
+{
+    struct vermolgas_data_ data = vermolgas_no_data_();
+    if (list == NULL && count > 0)
+        vermolgas_refuse_(&data, VERMOLGAS_REFUSED_LENT);
+    if (count > most)
+        vermolgas_refuse_(&data, VERMOLGAS_REFUSED_TOO_LONG);
+    return data;
+}
+
+/* A number of one or two bytes behind what is filled, for which there is room. One that has more bytes is refused: cut
+ * off it would be another one. */
+static inline void vermolgas_put_(struct vermolgas_data_ *data, size_t number, size_t bytes)
+{
+    size_t i;
+
+    if (number >> (8 * bytes) != 0)
+        vermolgas_refuse_(data, VERMOLGAS_REFUSED_RANGE);
+    for (i = 0; i < bytes; i++)
+        data->bytes[data->length++] = VERMOLGAS_CAST(uint8_t, number >> (8 * i) & 0xFFu);
+}
+
+/* A start of a table, of two bytes. One that has more lies past every table. */
+static inline void vermolgas_put_start_(struct vermolgas_data_ *data, size_t start)
+{
+    if (start > 0xFFFF)
+        vermolgas_refuse_(data, VERMOLGAS_REFUSED_PAST_TABLE);
+    vermolgas_put_(data, start & 0xFFFF, 2);
+}
+
+VERMOLGAS_INLINE_ struct vermolgas_command vermolgas_refused_(unsigned status)
+{
+    struct vermolgas_command command;
+    memset(&command, 0, sizeof command);
+    command.status = status;
+    return command;
+}
+
+/* Makes a packet: any command, any options, so many bytes of data. */
+VERMOLGAS_INLINE_ struct vermolgas_command vermolgas_make_command(enum vermolgas_opcode opcode, uint8_t options,
+                                                                  const uint8_t *data, size_t length)
+{
+    struct vermolgas_command command = vermolgas_refused_(VERMOLGAS_REFUSED_LENT);
+    unsigned number = opcode;
+    uint64_t made;
+
+    if (data == NULL && length > 0)
+        return command;
+    if (number > 0xFFFF)
+        number = 0xFFFF; /* as little an opcode as before */
+    made = vermolgas_make(VERMOLGAS_CAST(uint16_t, number), options, data, length, command.bytes, sizeof command.bytes);
+    command.status = VERMOLGAS_STATUS(made);
+    command.length = VERMOLGAS_MAKE_LENGTH(made);
+    return command;
+}
+
+/* A packet of data that was written, unless this or the entry refuses it. */
+VERMOLGAS_INLINE_ struct vermolgas_command vermolgas_make_from_(enum vermolgas_opcode opcode, unsigned options,
+                                                                struct vermolgas_data_ *data)
+{
+    struct vermolgas_command command =
+        vermolgas_make_command(opcode, VERMOLGAS_CAST(uint8_t, options), data->bytes, data->length);
+
+    if (data->status == VERMOLGAS_ACCEPTED)
+        return command;
+    if (command.status != VERMOLGAS_ACCEPTED)
+        vermolgas_refuse_(data, command.status);
+    return vermolgas_refused_(data->status);
+}
+
+/* A command whose data is one number. */
+VERMOLGAS_INLINE_ struct vermolgas_command vermolgas_make_number_(enum vermolgas_opcode opcode, uint8_t options,
+                                                                  unsigned number, size_t bytes)
+{
+    struct vermolgas_data_ data = vermolgas_no_data_();
+    vermolgas_put_(&data, number, bytes);
+    return vermolgas_make_from_(opcode, options, &data);
+}
+
+/* Makers of single writes. The options are VERMOLGAS_OPTIONS_CHECKED, or 0 for the fewest bytes and no reply; a length
+ * field is added where the command needs one. */
+
+VERMOLGAS_INLINE_ struct vermolgas_command vermolgas_make_display(enum vermolgas_display display, uint8_t options)
+{
+    return vermolgas_make_number_(VERMOLGAS_OP_DISPLAY, options, display, 1);
+}
+
+VERMOLGAS_INLINE_ struct vermolgas_command vermolgas_make_low_latency(bool on, uint8_t options)
+{
+    return vermolgas_make_number_(VERMOLGAS_OP_LOW_LATENCY, options, on ? 1 : 0, 1);
+}
+
+VERMOLGAS_INLINE_ struct vermolgas_command vermolgas_make_look(unsigned look, uint8_t options)
+{
+    return vermolgas_make_number_(VERMOLGAS_OP_LOOK, options, look, 2);
+}
+
+VERMOLGAS_INLINE_ struct vermolgas_command vermolgas_make_curtain(enum vermolgas_curtain colour, uint8_t options)
+{
+    return vermolgas_make_number_(VERMOLGAS_OP_CURTAIN, options, colour, 1);
+}
+
+VERMOLGAS_INLINE_ struct vermolgas_command vermolgas_make_flip(enum vermolgas_flip flip, uint8_t options)
+{
+    return vermolgas_make_number_(VERMOLGAS_OP_FLIP, options, flip, 1);
+}
+
+VERMOLGAS_INLINE_ struct vermolgas_command vermolgas_make_freeze(bool on, uint8_t options)
+{
+    return vermolgas_make_number_(VERMOLGAS_OP_FREEZE, options, on ? 1 : 0, 1);
+}
+
+/* Makes the staged map live; or, with false, turns warping off and leaves the live map as it is. */
+VERMOLGAS_INLINE_ struct vermolgas_command vermolgas_make_apply(bool on, uint8_t options)
+{
+    return vermolgas_make_number_(VERMOLGAS_OP_APPLY_WARPING, options, on ? 1 : 0, 1);
+}
+
+/* Control points evenly, in so many columns and rows. */
+VERMOLGAS_INLINE_ struct vermolgas_command vermolgas_make_shape(unsigned columns, unsigned rows, uint8_t options)
+{
+    struct vermolgas_data_ data = vermolgas_no_data_();
+    vermolgas_put_(&data, VERMOLGAS_CONTROL_POINTS_EVEN, 1);
+    vermolgas_put_(&data, columns, 2);
+    vermolgas_put_(&data, rows, 2);
+    return vermolgas_make_from_(VERMOLGAS_OP_CONTROL_POINTS, options | VERMOLGAS_OPTION_LENGTH, &data);
+}
+
+/* Staged points from start on. Refusal 9 for none, 3 for more than VERMOLGAS_WRITE_POINTS; 12 for a start that no
+ * packet can carry. */
+VERMOLGAS_INLINE_ struct vermolgas_command vermolgas_make_points(size_t start, const struct vermolgas_point *points,
+                                                                 size_t count, uint8_t options)
+{
+    struct vermolgas_data_ data = vermolgas_data_for_(points, count, VERMOLGAS_WRITE_POINTS);
+    size_t i;
+
+    if (data.status != VERMOLGAS_ACCEPTED)
+        return vermolgas_refused_(data.status);
+    vermolgas_put_start_(&data, start);
+    for (i = 0; i < count; i++) {
+        vermolgas_put_(&data, points[i].x, 2);
+        vermolgas_put_(&data, points[i].y, 2);
+    }
+    return vermolgas_make_from_(VERMOLGAS_OP_WARP_TABLE, options | VERMOLGAS_OPTION_LENGTH, &data);
+}
+
+/* Gains from start on, VERMOLGAS_GAIN_ONE for 1.0. Refusal 10 for none, 3 for more than a packet with these options
+ * holds: VERMOLGAS_WRITE_GAINS, or one fewer with a checksum or a two-byte opcode; 12 as above. */
+VERMOLGAS_INLINE_ struct vermolgas_command vermolgas_make_gains(enum vermolgas_gain_colour colour, size_t start,
+                                                                const uint16_t *gains, size_t count, uint8_t options)
+{
+    struct vermolgas_data_ data = vermolgas_data_for_(gains, count, VERMOLGAS_WRITE_GAINS);
+    size_t i;
+
+    if (data.status != VERMOLGAS_ACCEPTED)
+        return vermolgas_refused_(data.status);
+    vermolgas_put_(&data, 0, 1); /* not compressed */
+    vermolgas_put_(&data, colour, 1);
+    vermolgas_put_(&data, count, 2);
+    vermolgas_put_start_(&data, start);
+    for (i = 0; i < count; i++)
+        vermolgas_put_(&data, gains[i], 2);
+    return vermolgas_make_from_(VERMOLGAS_OP_GAINS, options | VERMOLGAS_OPTION_LENGTH, &data);
+}
+
+/* Reads, which are always replied to. This one is for commands whose read sends nothing; refusal 9 for the others. */
+VERMOLGAS_INLINE_ struct vermolgas_command vermolgas_make_read(enum vermolgas_opcode opcode, uint8_t options)
+{
+    return vermolgas_make_command(opcode, VERMOLGAS_CAST(uint8_t, options | VERMOLGAS_OPTION_READ), NULL, 0);
+}
+
+/* Staged points, 1 to VERMOLGAS_READ_POINTS; else refusal 10. */
+VERMOLGAS_INLINE_ struct vermolgas_command vermolgas_make_read_points(size_t start, size_t count, uint8_t options)
+{
+    struct vermolgas_data_ data = vermolgas_no_data_();
+    vermolgas_put_start_(&data, start);
+    vermolgas_put_(&data, count, 2);
+    return vermolgas_make_from_(VERMOLGAS_OP_WARP_TABLE, options | VERMOLGAS_OPTION_READ, &data);
+}
+
+/* Gains of one colour, 1 to VERMOLGAS_READ_GAINS; else refusal 10. */
+VERMOLGAS_INLINE_ struct vermolgas_command vermolgas_make_read_gains(enum vermolgas_gain_colour colour, size_t start,
+                                                                     size_t count, uint8_t options)
+{
+    struct vermolgas_data_ data = vermolgas_no_data_();
+    vermolgas_put_(&data, colour, 1);
+    vermolgas_put_start_(&data, start);
+    vermolgas_put_(&data, count, 2);
+    return vermolgas_make_from_(VERMOLGAS_OP_GAINS, options | VERMOLGAS_OPTION_READ, &data);
+}
+
+/* The same command once more, with checksum and reply requested: for a line that loses bytes. Refused is what is no
+ * packet, as vermolgas_read does. */
+VERMOLGAS_INLINE_ struct vermolgas_command vermolgas_make_checked(const uint8_t *packet, size_t length)
+{
+    uint64_t read;
+
+    if (packet == NULL && length > 0)
+        return vermolgas_refused_(VERMOLGAS_REFUSED_LENT);
+    read = vermolgas_read(packet, length);
+    if (VERMOLGAS_STATUS(read) != VERMOLGAS_ACCEPTED)
+        return vermolgas_refused_(VERMOLGAS_STATUS(read));
+    return vermolgas_make_command(VERMOLGAS_CAST(enum vermolgas_opcode, VERMOLGAS_READ_OPCODE(read)),
+                                  VERMOLGAS_CAST(uint8_t, VERMOLGAS_READ_OPTIONS(read) | VERMOLGAS_OPTIONS_CHECKED),
+                                  packet + VERMOLGAS_READ_OFFSET(read), VERMOLGAS_READ_LENGTH(read));
+}
+
+/* The upload of a map: what the device holds, what it is to hold, and what planning writes. packets and bytes are those
+ * of the last plan; a zeroed upload has none. */
+struct vermolgas_upload {
+    uint8_t held[VERMOLGAS_MAP_BYTES];
+    uint8_t wanted[VERMOLGAS_MAP_BYTES];
+    uint8_t plan[VERMOLGAS_PLAN_LIST_BYTES];
+    uint8_t room[VERMOLGAS_ROOM_BYTES];
+    uint8_t batch[VERMOLGAS_BATCH_BYTES];
+    size_t packets;
+    size_t bytes;
+};
+
+/* Begins an upload: held and wanted are the device's staged map, and nothing is planned. */
+VERMOLGAS_INLINE_ unsigned vermolgas_upload_start(struct vermolgas_upload *upload,
+                                                  const struct vermolgas_device *device)
+{
+    if (upload == NULL || device == NULL)
+        return VERMOLGAS_REFUSED_LENT;
+    memcpy(upload->held, device->staged, sizeof upload->held);
+    memcpy(upload->wanted, device->staged, sizeof upload->wanted);
+    upload->packets = 0;
+    upload->bytes = 0;
+    return VERMOLGAS_ACCEPTED;
+}
+
+VERMOLGAS_INLINE_ unsigned vermolgas_set_point_(uint8_t *map, size_t index, struct vermolgas_point point)
+{
+    uint8_t *place;
+
+    if (index >= VERMOLGAS_MOST_POINTS)
+        return VERMOLGAS_REFUSED_PAST_TABLE;
+    place = map + VERMOLGAS_POINT_BYTES * index;
+    place[0] = VERMOLGAS_CAST(uint8_t, point.x & 0xFF);
+    place[1] = VERMOLGAS_CAST(uint8_t, point.x >> 8);
+    place[2] = VERMOLGAS_CAST(uint8_t, point.y & 0xFF);
+    place[3] = VERMOLGAS_CAST(uint8_t, point.y >> 8);
+    return VERMOLGAS_ACCEPTED;
+}
+
+/* Sets a point of the map held, and of the map wanted. Refusal 12 for an index past the map. */
+VERMOLGAS_INLINE_ unsigned vermolgas_upload_hold(struct vermolgas_upload *upload, size_t index,
+                                                 struct vermolgas_point point)
+{
+    return upload == NULL ? VERMOLGAS_REFUSED_LENT : vermolgas_set_point_(upload->held, index, point);
+}
+
+VERMOLGAS_INLINE_ unsigned vermolgas_upload_want(struct vermolgas_upload *upload, size_t index,
+                                                 struct vermolgas_point point)
+{
+    return upload == NULL ? VERMOLGAS_REFUSED_LENT : vermolgas_set_point_(upload->wanted, index, point);
+}
+
+/* Plans the upload of the first points of the map, 1 to VERMOLGAS_MOST_POINTS, else refusal 10. On a refusal all
+ * stays, the last plan too. */
+VERMOLGAS_INLINE_ unsigned vermolgas_upload_plan(struct vermolgas_upload *upload, uint32_t points)
+{
+    size_t length = points <= VERMOLGAS_MOST_POINTS ? VERMOLGAS_POINT_BYTES * VERMOLGAS_CAST(size_t, points) : 0;
+    uint64_t answer;
+
+    if (upload == NULL)
+        return VERMOLGAS_REFUSED_LENT;
+    answer = vermolgas_plan(points, upload->held, length, upload->wanted, length, upload->plan, sizeof upload->plan,
+                            upload->room, sizeof upload->room, upload->batch, sizeof upload->batch);
+    if (VERMOLGAS_STATUS(answer) == VERMOLGAS_ACCEPTED) {
+        upload->packets = VERMOLGAS_PLAN_PACKETS(answer);
+        upload->bytes = VERMOLGAS_PLAN_BYTES(answer);
+    }
+    return VERMOLGAS_STATUS(answer);
+}
+
+/* A walk over the packets of a planned upload:
+ *
+ *     struct vermolgas_walk walk = vermolgas_upload_walk(&upload);
+ *     while (vermolgas_walk_next(&walk))
+ *         send(walk.packet, walk.length);
+ *
+ * The upload has to stay as it was planned. If it did not, the walk ends with status 1, and never leaves the batch. */
+struct vermolgas_walk {
+    const struct vermolgas_upload *upload;
+    size_t next;           /* which packet of the plan comes next, and where it stands in the batch */
+    size_t next_offset;
+    unsigned status;
+    const uint8_t *packet; /* the packet at hand; NULL before the first and behind the last */
+    size_t length;
+    size_t start, count;   /* the points that it carries */
+};
+
+VERMOLGAS_INLINE_ struct vermolgas_walk vermolgas_upload_walk(const struct vermolgas_upload *upload)
+{
+    struct vermolgas_walk walk;
+    memset(&walk, 0, sizeof walk);
+    walk.upload = upload;
+    walk.packet = NULL;
+    walk.status = upload == NULL ? VERMOLGAS_REFUSED_LENT : VERMOLGAS_ACCEPTED;
+    return walk;
+}
+
+/* The packet that comes next, by the plan's count of its points. Whether it lies in the batch as planned. */
+VERMOLGAS_INLINE_ bool vermolgas_walk_step_(struct vermolgas_walk *walk)
+{
+    const struct vermolgas_upload *upload = walk->upload;
+    const uint8_t *listed;
+
+    if (walk->next >= VERMOLGAS_MOST_POINTS || upload->bytes > sizeof upload->batch ||
+        walk->next_offset > upload->bytes)
+        return false;
+    listed = upload->plan + 4 * walk->next;
+    walk->start = VERMOLGAS_CAST(size_t, listed[0] | listed[1] << 8);
+    walk->count = VERMOLGAS_CAST(size_t, listed[2] | listed[3] << 8);
+    walk->length = 6 + VERMOLGAS_POINT_BYTES * walk->count;
+    if (walk->length > upload->bytes - walk->next_offset)
+        return false;
+    walk->packet = upload->batch + walk->next_offset;
+    walk->next_offset += walk->length;
+    walk->next++;
+    return true;
+}
+
+/* Goes on to the next packet; false if there is none. */
+VERMOLGAS_INLINE_ bool vermolgas_walk_next(struct vermolgas_walk *walk)
+{
+    if (walk == NULL)
+        return false;
+    walk->packet = NULL;
+    walk->length = walk->start = walk->count = 0;
+    if (walk->status != VERMOLGAS_ACCEPTED || walk->upload == NULL || walk->next >= walk->upload->packets)
+        return false;
+    if (vermolgas_walk_step_(walk))
+        return true;
+    walk->length = walk->start = walk->count = 0;
+    walk->status = VERMOLGAS_REFUSED_LENT;
+    return false;
+}
+
+#endif

@@ -1,0 +1,609 @@
+/* The names of vermolgas.h and all of vermolgas_device.h, in what C99 and C++11 share: built in each language mode. */
+#include "vermolgas_device.h"
+
+#include "check.h"
+
+#include <limits.h>
+
+#define COUNT(list) (sizeof(list) / sizeof *(list))
+
+static struct vermolgas_device device, before;
+static struct vermolgas_upload upload, upload_before;
+static struct vermolgas_reply reply, reply_before;
+
+/* Whether these are the bytes of a text such as "04 11 01". */
+static bool bytes_are(const uint8_t *bytes, size_t length, const char *hex)
+{
+    size_t i;
+
+    for (i = 0; i < length; i++) {
+        char *end;
+        if (strtoul(hex, &end, 16) != bytes[i] || end == hex)
+            return false;
+        hex = end;
+    }
+    return *hex == '\0';
+}
+
+/* Whether a command was made, of these bytes; and whether it was refused with this number, and has none. */
+static bool made(const struct vermolgas_command *command, const char *hex)
+{
+    return command->status == VERMOLGAS_ACCEPTED && bytes_are(command->bytes, command->length, hex);
+}
+
+static bool refused(const struct vermolgas_command *command, unsigned status)
+{
+    return command->status == status && command->length == 0;
+}
+
+/* One-line checks of makers. */
+#define CHECK_MADE(call, hex)                                                                                         \
+    do {                                                                                                              \
+        struct vermolgas_command command_ = call;                                                                     \
+        CHECK(made(&command_, hex) && #call);                                                                         \
+    } while (0)
+#define CHECK_REFUSED(call, status)                                                                                   \
+    do {                                                                                                              \
+        struct vermolgas_command command_ = call;                                                                     \
+        CHECK(refused(&command_, status) && #call);                                                                   \
+    } while (0)
+
+static struct vermolgas_point point_at(unsigned x, unsigned y)
+{
+    struct vermolgas_point point;
+    point.x = VERMOLGAS_CAST(uint16_t, x);
+    point.y = VERMOLGAS_CAST(uint16_t, y);
+    return point;
+}
+
+static struct vermolgas_result send(const struct vermolgas_command *command)
+{
+    return vermolgas_device_send(&device, command->bytes, command->length, &reply);
+}
+
+/* Sends a packet of one to four bytes. */
+static struct vermolgas_result send_bytes(size_t length, unsigned a, unsigned b, unsigned c, unsigned d)
+{
+    uint8_t packet[4];
+    packet[0] = VERMOLGAS_CAST(uint8_t, a);
+    packet[1] = VERMOLGAS_CAST(uint8_t, b);
+    packet[2] = VERMOLGAS_CAST(uint8_t, c);
+    packet[3] = VERMOLGAS_CAST(uint8_t, d);
+    return vermolgas_device_send(&device, packet, length, &reply);
+}
+
+static void start(void)
+{
+    memset(&reply, 0xAA, sizeof reply);
+    CHECK(vermolgas_device_reset(&device) == VERMOLGAS_ACCEPTED);
+}
+
+static void keep(void)
+{
+    before = device;
+    upload_before = upload;
+    reply_before = reply;
+}
+
+static bool kept(void)
+{
+    return memcmp(&before, &device, sizeof device) == 0 && memcmp(&reply_before, &reply, sizeof reply) == 0 &&
+           memcmp(&upload_before, &upload, sizeof upload) == 0;
+}
+
+static bool listed(const unsigned *list, size_t count, unsigned number)
+{
+    size_t i;
+
+    for (i = 0; i < count; i++)
+        if (list[i] == number)
+            return true;
+    return false;
+}
+
+static void opcodes(void)
+{
+    static const unsigned carried[] = {
+        VERMOLGAS_OP_DISPLAY,        VERMOLGAS_OP_LOW_LATENCY,     VERMOLGAS_OP_LOOK,
+        VERMOLGAS_OP_CURTAIN,        VERMOLGAS_OP_SPLASH,          VERMOLGAS_OP_FLIP,
+        VERMOLGAS_OP_FREEZE,         VERMOLGAS_OP_GAINS,           VERMOLGAS_OP_WARP_TABLE,
+        VERMOLGAS_OP_CONTROL_POINTS, VERMOLGAS_OP_APPLY_WARPING,   VERMOLGAS_OP_SMOOTH_WARP_TABLE,
+        VERMOLGAS_OP_UPDATE_MODE,    VERMOLGAS_OP_GPIO_PIN_CONFIG, VERMOLGAS_OP_GPIO_PIN,
+        VERMOLGAS_OP_PWM_OUTPUT,     VERMOLGAS_OP_EEPROM_LOCK,     VERMOLGAS_OP_UART};
+    unsigned number;
+
+    CHECK(COUNT(carried) == 18);
+    for (number = 1; number < COUNT(carried); number++)
+        CHECK(carried[number - 1] < carried[number]);
+    for (number = 0; number < 256; number++) {
+        uint8_t packet[2] = {0x84, 0};
+        packet[1] = VERMOLGAS_CAST(uint8_t, number);
+        CHECK((VERMOLGAS_STATUS(vermolgas_read(packet, 2)) != VERMOLGAS_REFUSED_OPCODE) ==
+              listed(carried, COUNT(carried), number));
+    }
+}
+
+/* The values that have names, in the guides' order: the numbers rise. */
+static const unsigned displays[] = {VERMOLGAS_DISPLAY_EXTERNAL, VERMOLGAS_DISPLAY_TEST_PATTERN,
+                                    VERMOLGAS_DISPLAY_SOLID_FIELD, VERMOLGAS_DISPLAY_SPLASH,
+                                    VERMOLGAS_DISPLAY_CURTAIN};
+static const unsigned curtains[] = {VERMOLGAS_CURTAIN_BLACK, VERMOLGAS_CURTAIN_WHITE, VERMOLGAS_CURTAIN_GREEN,
+                                    VERMOLGAS_CURTAIN_RED,   VERMOLGAS_CURTAIN_BLUE,  VERMOLGAS_CURTAIN_YELLOW,
+                                    VERMOLGAS_CURTAIN_CYAN,  VERMOLGAS_CURTAIN_MAGENTA};
+static const unsigned flips[] = {VERMOLGAS_FLIP_NONE, VERMOLGAS_FLIP_VERTICAL, VERMOLGAS_FLIP_HORIZONTAL,
+                                 VERMOLGAS_FLIP_BOTH};
+static const unsigned gain_colours[] = {VERMOLGAS_GAIN_ALL, VERMOLGAS_GAIN_RED, VERMOLGAS_GAIN_GREEN,
+                                        VERMOLGAS_GAIN_BLUE};
+static const unsigned modes[] = {VERMOLGAS_CONTROL_POINTS_EVEN};
+static const unsigned updates[] = {VERMOLGAS_UPDATE_OVERWRITE};
+static const unsigned directions[] = {VERMOLGAS_GPIO_INPUT, VERMOLGAS_GPIO_OUTPUT};
+static const unsigned levels[] = {VERMOLGAS_GPIO_LOW, VERMOLGAS_GPIO_HIGH};
+static const unsigned drains[] = {VERMOLGAS_GPIO_STANDARD, VERMOLGAS_GPIO_OPEN_DRAIN};
+static const unsigned locks[] = {VERMOLGAS_EEPROM_UNLOCKED, VERMOLGAS_EEPROM_LOCKED};
+static const unsigned ports[] = {VERMOLGAS_PWM_OUTPUT_0, VERMOLGAS_PWM_OUTPUT_1, VERMOLGAS_PWM_OUTPUT_2,
+                                 VERMOLGAS_PWM_OUTPUT_3, VERMOLGAS_PWM_OUTPUT_4, VERMOLGAS_PWM_OUTPUT_5,
+                                 VERMOLGAS_PWM_OUTPUT_6, VERMOLGAS_PWM_OUTPUT_7, VERMOLGAS_PWM_WHEEL_0,
+                                 VERMOLGAS_PWM_WHEEL_1,  VERMOLGAS_PWM_WHEEL_2,  VERMOLGAS_PWM_DYNAMIC_BLACK};
+static const unsigned bauds[] = {
+    VERMOLGAS_UART_BAUD_1200,   VERMOLGAS_UART_BAUD_2400,   VERMOLGAS_UART_BAUD_4800,   VERMOLGAS_UART_BAUD_9600,
+    VERMOLGAS_UART_BAUD_14400,  VERMOLGAS_UART_BAUD_19200,  VERMOLGAS_UART_BAUD_38400,  VERMOLGAS_UART_BAUD_57600,
+    VERMOLGAS_UART_BAUD_115200, VERMOLGAS_UART_BAUD_230400, VERMOLGAS_UART_BAUD_460800, VERMOLGAS_UART_BAUD_921600};
+static const unsigned bits[] = {VERMOLGAS_UART_BITS_5, VERMOLGAS_UART_BITS_6, VERMOLGAS_UART_BITS_7,
+                                VERMOLGAS_UART_BITS_8};
+static const unsigned stops[] = {VERMOLGAS_UART_STOP_1, VERMOLGAS_UART_STOP_2};
+static const unsigned parities[] = {VERMOLGAS_UART_PARITY_NONE, VERMOLGAS_UART_PARITY_EVEN,
+                                    VERMOLGAS_UART_PARITY_ODD};
+static const unsigned flows[] = {VERMOLGAS_UART_FLOW_OFF, VERMOLGAS_UART_FLOW_HARDWARE};
+static const unsigned triggers[] = {VERMOLGAS_UART_TRIGGER_EIGHTH, VERMOLGAS_UART_TRIGGER_QUARTER,
+                                    VERMOLGAS_UART_TRIGGER_HALF, VERMOLGAS_UART_TRIGGER_THREE_QUARTERS,
+                                    VERMOLGAS_UART_TRIGGER_SEVEN_EIGHTHS};
+static const unsigned polarities[] = {VERMOLGAS_UART_POLARITY_NORMAL, VERMOLGAS_UART_POLARITY_INVERTED};
+static const unsigned sources[] = {VERMOLGAS_UART_SOURCE_RXD, VERMOLGAS_UART_SOURCE_LAMPSTAT};
+
+/* Where they stand: a command, data that it takes, and the place of the value there. */
+static const struct {
+    enum vermolgas_opcode opcode;
+    const char *data;
+    size_t length, place;
+    const unsigned *values;
+    size_t count;
+} named[] = {
+    {VERMOLGAS_OP_DISPLAY, "", 1, 0, displays, COUNT(displays)},
+    {VERMOLGAS_OP_CURTAIN, "", 1, 0, curtains, COUNT(curtains)},
+    {VERMOLGAS_OP_FLIP, "", 1, 0, flips, COUNT(flips)},
+    {VERMOLGAS_OP_GAINS, "\0\0\1\0\0\0\0", 8, 1, gain_colours, COUNT(gain_colours)},
+    {VERMOLGAS_OP_CONTROL_POINTS, "\0\2\0\2", 5, 0, modes, COUNT(modes)},
+    {VERMOLGAS_OP_UPDATE_MODE, "", 1, 0, updates, COUNT(updates)},
+    {VERMOLGAS_OP_GPIO_PIN_CONFIG, "\0\0\0", 4, 1, directions, COUNT(directions)},
+    {VERMOLGAS_OP_GPIO_PIN_CONFIG, "\0\0\0", 4, 2, levels, COUNT(levels)},
+    {VERMOLGAS_OP_GPIO_PIN_CONFIG, "\0\0\0", 4, 3, drains, COUNT(drains)},
+    {VERMOLGAS_OP_GPIO_PIN, "\0", 2, 1, levels, COUNT(levels)},
+    {VERMOLGAS_OP_EEPROM_LOCK, "", 1, 0, locks, COUNT(locks)},
+    {VERMOLGAS_OP_PWM_OUTPUT, "\0\x14\0\0\0\0", 7, 0, ports, COUNT(ports)},
+    {VERMOLGAS_OP_UART, "\0\0\0\0\0\0\0\0\0\0", 11, 2, bauds, COUNT(bauds)},
+    {VERMOLGAS_OP_UART, "\0\0\0\0\0\0\0\0\0\0", 11, 3, bits, COUNT(bits)},
+    {VERMOLGAS_OP_UART, "\0\0\0\0\0\0\0\0\0\0", 11, 4, stops, COUNT(stops)},
+    {VERMOLGAS_OP_UART, "\0\0\0\0\0\0\0\0\0\0", 11, 5, parities, COUNT(parities)},
+    {VERMOLGAS_OP_UART, "\0\0\0\0\0\0\0\0\0\0", 11, 6, flows, COUNT(flows)},
+    {VERMOLGAS_OP_UART, "\0\0\0\0\0\0\0\0\0\0", 11, 7, triggers, COUNT(triggers)},
+    {VERMOLGAS_OP_UART, "\0\0\0\0\0\0\0\0\0\0", 11, 8, triggers, COUNT(triggers)},
+    {VERMOLGAS_OP_UART, "\0\0\0\0\0\0\0\0\0\0", 11, 9, polarities, COUNT(polarities)},
+    {VERMOLGAS_OP_UART, "\0\0\0\0\0\0\0\0\0\0", 11, 10, sources, COUNT(sources)},
+};
+
+/* Of all bytes at their place, exactly those that have a name are taken. */
+static void named_values(void)
+{
+    size_t i, j;
+
+    for (i = 0; i < COUNT(named); i++) {
+        uint8_t data[16];
+        unsigned number;
+        memcpy(data, named[i].data, named[i].length);
+        for (j = 1; j < named[i].count; j++)
+            CHECK(named[i].values[j - 1] < named[i].values[j]);
+        for (number = 0; number < 256; number++) {
+            data[named[i].place] = VERMOLGAS_CAST(uint8_t, number);
+            CHECK((vermolgas_make_command(named[i].opcode, VERMOLGAS_OPTION_LENGTH, data, named[i].length).status ==
+                   VERMOLGAS_ACCEPTED) == listed(named[i].values, named[i].count, number));
+        }
+    }
+}
+
+/* Control points that are listed have a size of their own. */
+static void listed_control_points(void)
+{
+    uint8_t lists[189] = {VERMOLGAS_CONTROL_POINTS_LISTED};
+    size_t i;
+
+    for (i = 0; i < 94; i++)
+        lists[1 + 2 * i] = VERMOLGAS_CAST(uint8_t, i);
+    CHECK(vermolgas_make_command(VERMOLGAS_OP_CONTROL_POINTS, VERMOLGAS_OPTION_LENGTH, lists, sizeof lists).status ==
+          VERMOLGAS_ACCEPTED);
+}
+
+static void sending(void)
+{
+    struct vermolgas_result result;
+
+    start();
+    result = send_bytes(3, 0x04, 0x11, 0x01, 0);
+    CHECK(result.status == VERMOLGAS_ACCEPTED && result.reply_length == 0);
+    CHECK(result.data == NULL && result.data_length == 0 && reply.bytes[0] == 0xAA && device.block[0] == 1);
+    result = send_bytes(2, 0x84, 0x11, 0, 0);
+    CHECK(result.status == VERMOLGAS_ACCEPTED && result.reply_length == 4);
+    CHECK(result.data == reply.bytes + 3 && bytes_are(result.data, result.data_length, "01"));
+    result = send_bytes(3, 0xA4, 0x11, 0xB5, 0);
+    CHECK(result.status == VERMOLGAS_ACCEPTED && result.reply_length == 5);
+    CHECK(bytes_are(result.data, result.data_length, "01"));
+    result = send_bytes(3, 0x44, 0x11, 0x02, 0);
+    CHECK(result.status == VERMOLGAS_ACCEPTED && result.reply_length == 3);
+    CHECK(result.data == NULL && result.data_length == 0);
+
+    before = device;
+    result = send_bytes(3, 0x44, 0x11, 0x05, 0);
+    CHECK(result.status == VERMOLGAS_REFUSED_RANGE && result.reply_length >= 3);
+    CHECK(result.data == NULL && result.data_length == 0);
+    result = send_bytes(4, 0x64, 0x11, 0x01, 0x00);
+    CHECK(result.status == VERMOLGAS_REFUSED_CHECKSUM && result.reply_length == 4);
+    result = send_bytes(0, 0, 0, 0, 0);
+    CHECK(result.status == VERMOLGAS_REFUSED_TOO_SHORT && result.reply_length == 0);
+    result = vermolgas_device_send(&device, NULL, 0, &reply);
+    CHECK(result.status == VERMOLGAS_REFUSED_TOO_SHORT && result.reply_length == 0);
+    CHECK(memcmp(&before, &device, sizeof device) == 0);
+}
+
+/* Puts the bytes of a text into the reply, and reads it. */
+static struct vermolgas_reply_result read_hex(const char *hex, bool checksum)
+{
+    size_t length = 0;
+    char *end;
+
+    for (; *hex != '\0'; hex = end)
+        reply.bytes[length++] = VERMOLGAS_CAST(uint8_t, strtoul(hex, &end, 16));
+    return vermolgas_reply_read(&reply, length, checksum);
+}
+
+static void replies(void)
+{
+    struct vermolgas_reply_result result = read_hex("00 02 00 07 08", false);
+
+    CHECK(result.line_status == VERMOLGAS_ACCEPTED && result.device_status == VERMOLGAS_ACCEPTED);
+    CHECK(result.data == reply.bytes + 3 && bytes_are(result.data, result.data_length, "07 08"));
+    result = read_hex("00 00 00 00", true);
+    CHECK(result.line_status == VERMOLGAS_ACCEPTED && result.device_status == VERMOLGAS_ACCEPTED);
+    CHECK(result.data == NULL && result.data_length == 0);
+    result = read_hex("0C 00 00 0C", true);
+    CHECK(result.line_status == VERMOLGAS_ACCEPTED && result.device_status == VERMOLGAS_REFUSED_PAST_TABLE);
+    CHECK(result.data == NULL && result.data_length == 0);
+    result = read_hex("0A 02 00 04 00", false); /* data of a refusal is no data of a read */
+    CHECK(result.line_status == VERMOLGAS_ACCEPTED && result.device_status == VERMOLGAS_REFUSED_RANGE);
+    CHECK(result.data == NULL && result.data_length == 0);
+
+    /* What is no reply is nowhere an accepted one. */
+    result = read_hex("00 00 00 01", true);
+    CHECK(result.line_status == VERMOLGAS_REFUSED_CHECKSUM && result.device_status == VERMOLGAS_REFUSED_CHECKSUM);
+    result = read_hex("00 00", false);
+    CHECK(result.line_status == VERMOLGAS_REFUSED_TOO_SHORT && result.device_status == VERMOLGAS_REFUSED_TOO_SHORT);
+    result = vermolgas_reply_read(&reply, sizeof reply.bytes + 1, false);
+    CHECK(result.line_status == VERMOLGAS_REFUSED_TOO_LONG && result.device_status == VERMOLGAS_REFUSED_TOO_LONG);
+    result = vermolgas_reply_read(&reply, SIZE_MAX, true);
+    CHECK(result.line_status == VERMOLGAS_REFUSED_TOO_LONG && result.device_status == VERMOLGAS_REFUSED_TOO_LONG);
+    CHECK(result.data == NULL && result.data_length == 0);
+}
+
+static void makers(void)
+{
+    static const uint8_t pin[] = {12};
+    static const uint16_t gains[] = {5120, VERMOLGAS_GAIN_HIGHEST};
+    struct vermolgas_point points[2];
+    points[0] = point_at(1, 2);
+    points[1] = point_at(0x1234, 0xFFFF);
+
+    CHECK_MADE(vermolgas_make_display(VERMOLGAS_DISPLAY_TEST_PATTERN, 0), "04 11 01");
+    CHECK_MADE(vermolgas_make_display(VERMOLGAS_DISPLAY_TEST_PATTERN, VERMOLGAS_OPTIONS_CHECKED), "64 11 01 76");
+    CHECK_MADE(vermolgas_make_low_latency(true, 0), "04 12 01");
+    CHECK_MADE(vermolgas_make_low_latency(false, 0), "04 12 00");
+    CHECK_MADE(vermolgas_make_look(0xFFFE, 0), "04 13 FE FF");
+    CHECK_MADE(vermolgas_make_curtain(VERMOLGAS_CURTAIN_MAGENTA, 0), "04 1A 08");
+    CHECK_MADE(vermolgas_make_flip(VERMOLGAS_FLIP_BOTH, 0), "04 1C 03");
+    CHECK_MADE(vermolgas_make_freeze(true, 0), "04 1D 01");
+    CHECK_MADE(vermolgas_make_freeze(false, VERMOLGAS_OPTION_TWO_BYTE_OPCODE), "0C 1D 00 00");
+    CHECK_MADE(vermolgas_make_apply(true, 0), "04 36 01");
+    CHECK_MADE(vermolgas_make_apply(false, 0), "04 36 00");
+    CHECK_MADE(vermolgas_make_shape(62, 32, 0), "14 35 05 00 00 3E 00 20 00");
+    CHECK_MADE(vermolgas_make_points(1982, points, 2, 0), "14 34 0A 00 BE 07 01 00 02 00 34 12 FF FF");
+    CHECK_MADE(vermolgas_make_gains(VERMOLGAS_GAIN_BLUE, 258, gains, 2, 0),
+               "14 2B 0A 00 00 03 02 00 02 01 00 14 FF 1F");
+    CHECK_MADE(vermolgas_make_read(VERMOLGAS_OP_DISPLAY, 0), "84 11");
+    CHECK_MADE(vermolgas_make_read_points(1857, 127, 0), "84 34 41 07 7F 00");
+    CHECK_MADE(vermolgas_make_read_gains(VERMOLGAS_GAIN_RED, 99, 254, 0), "84 2B 01 63 00 FE 00");
+    CHECK_MADE(vermolgas_make_command(VERMOLGAS_OP_GPIO_PIN, VERMOLGAS_OPTION_READ, pin, 1), "84 61 0C");
+}
+
+/* A number that is cut off would be another one, and taken. */
+static void makers_refused(void)
+{
+    static const uint8_t data[600] = {0};
+
+    CHECK_REFUSED(vermolgas_make_display(VERMOLGAS_CAST(enum vermolgas_display, 257u), 0), VERMOLGAS_REFUSED_RANGE);
+    CHECK_REFUSED(vermolgas_make_curtain(VERMOLGAS_CAST(enum vermolgas_curtain, UINT_MAX), 0), VERMOLGAS_REFUSED_RANGE);
+    CHECK_REFUSED(vermolgas_make_flip(VERMOLGAS_CAST(enum vermolgas_flip, 4u), 0), VERMOLGAS_REFUSED_RANGE);
+    CHECK_REFUSED(vermolgas_make_look(0x10000, 0), VERMOLGAS_REFUSED_RANGE);
+    CHECK_REFUSED(vermolgas_make_shape(0x10003, 2, 0), VERMOLGAS_REFUSED_RANGE);
+    CHECK_REFUSED(vermolgas_make_shape(2, 33, 0), VERMOLGAS_REFUSED_RANGE);
+    CHECK_REFUSED(vermolgas_make_command(VERMOLGAS_CAST(enum vermolgas_opcode, 0x10011u), 0, data, 1),
+                  VERMOLGAS_REFUSED_OPCODE);
+    CHECK_REFUSED(vermolgas_make_command(VERMOLGAS_OP_GAINS, VERMOLGAS_OPTION_LENGTH, data, sizeof data),
+                  VERMOLGAS_REFUSED_TOO_LONG);
+    CHECK_REFUSED(vermolgas_make_command(VERMOLGAS_OP_DISPLAY, 0, NULL, 1), VERMOLGAS_REFUSED_LENT);
+    CHECK_REFUSED(vermolgas_make_command(VERMOLGAS_OP_DISPLAY, 0, NULL, SIZE_MAX), VERMOLGAS_REFUSED_LENT);
+    CHECK_REFUSED(vermolgas_make_display(VERMOLGAS_DISPLAY_SPLASH, VERMOLGAS_OPTION_READ), VERMOLGAS_REFUSED_SIZE);
+    CHECK_REFUSED(vermolgas_make_read(VERMOLGAS_OP_GPIO_PIN, 0), VERMOLGAS_REFUSED_SIZE);
+    CHECK_REFUSED(vermolgas_make_read_points(0, VERMOLGAS_READ_POINTS + 1, 0), VERMOLGAS_REFUSED_RANGE);
+    CHECK_REFUSED(vermolgas_make_read_points(0, 0x10001, 0), VERMOLGAS_REFUSED_RANGE);
+    CHECK_REFUSED(vermolgas_make_read_points(0x10000, 1, 0), VERMOLGAS_REFUSED_PAST_TABLE);
+    CHECK_REFUSED(vermolgas_make_read_gains(VERMOLGAS_GAIN_ALL, 0, 1, 0), VERMOLGAS_REFUSED_RANGE);
+    CHECK_REFUSED(vermolgas_make_read_gains(VERMOLGAS_GAIN_RED, 0, VERMOLGAS_READ_GAINS + 1, 0),
+                  VERMOLGAS_REFUSED_RANGE);
+
+    /* The number is the first that applies, whoever finds it. */
+    CHECK_REFUSED(vermolgas_make_look(0x10000, VERMOLGAS_OPTION_READ), VERMOLGAS_REFUSED_SIZE);
+    CHECK_REFUSED(vermolgas_make_read_points(0x10000, 0, 0), VERMOLGAS_REFUSED_RANGE);
+    CHECK_REFUSED(vermolgas_make_read_points(0x10000, 0x10000, 0), VERMOLGAS_REFUSED_RANGE);
+}
+
+static void tables_refused(void)
+{
+    static const struct vermolgas_point points[VERMOLGAS_WRITE_POINTS + 1] = {{0, 0}};
+    static const uint16_t gains[VERMOLGAS_WRITE_GAINS + 1] = {0};
+    static const uint16_t high[] = {VERMOLGAS_GAIN_HIGHEST + 1};
+
+    CHECK(vermolgas_make_points(0, points, VERMOLGAS_WRITE_POINTS, 0x68).length == VERMOLGAS_LONGEST);
+    CHECK_REFUSED(vermolgas_make_points(0, points, VERMOLGAS_WRITE_POINTS + 1, 0), VERMOLGAS_REFUSED_TOO_LONG);
+    CHECK_REFUSED(vermolgas_make_points(0, points, SIZE_MAX, 0), VERMOLGAS_REFUSED_TOO_LONG);
+    CHECK_REFUSED(vermolgas_make_points(0, points, 0, 0), VERMOLGAS_REFUSED_SIZE);
+    CHECK_REFUSED(vermolgas_make_points(0, NULL, 0, 0), VERMOLGAS_REFUSED_SIZE);
+    CHECK_REFUSED(vermolgas_make_points(0, NULL, 1, 0), VERMOLGAS_REFUSED_LENT);
+    CHECK_REFUSED(vermolgas_make_points(0x10000, points, 1, 0), VERMOLGAS_REFUSED_PAST_TABLE);
+    CHECK_REFUSED(vermolgas_make_points(0x10000, points, 0, 0), VERMOLGAS_REFUSED_SIZE);
+
+    CHECK(vermolgas_make_gains(VERMOLGAS_GAIN_ALL, 0, gains, VERMOLGAS_WRITE_GAINS, 0).length == VERMOLGAS_LONGEST);
+    CHECK(vermolgas_make_gains(VERMOLGAS_GAIN_ALL, 0, gains, VERMOLGAS_WRITE_GAINS - 1, 0x68).length ==
+          VERMOLGAS_LONGEST);
+    CHECK_REFUSED(vermolgas_make_gains(VERMOLGAS_GAIN_ALL, 0, gains, VERMOLGAS_WRITE_GAINS, VERMOLGAS_OPTION_CHECKSUM),
+                  VERMOLGAS_REFUSED_TOO_LONG);
+    CHECK_REFUSED(vermolgas_make_gains(VERMOLGAS_GAIN_ALL, 0, gains, VERMOLGAS_WRITE_GAINS + 1, 0),
+                  VERMOLGAS_REFUSED_TOO_LONG);
+    CHECK_REFUSED(vermolgas_make_gains(VERMOLGAS_GAIN_ALL, 0, gains, SIZE_MAX, 0), VERMOLGAS_REFUSED_TOO_LONG);
+    CHECK_REFUSED(vermolgas_make_gains(VERMOLGAS_GAIN_ALL, 0, NULL, 0, 0), VERMOLGAS_REFUSED_RANGE);
+    CHECK_REFUSED(vermolgas_make_gains(VERMOLGAS_GAIN_ALL, 0, NULL, 1, 0), VERMOLGAS_REFUSED_LENT);
+    CHECK_REFUSED(vermolgas_make_gains(VERMOLGAS_GAIN_ALL, SIZE_MAX, gains, 1, 0), VERMOLGAS_REFUSED_PAST_TABLE);
+    CHECK_REFUSED(vermolgas_make_gains(VERMOLGAS_GAIN_RED, 0, high, 1, 0), VERMOLGAS_REFUSED_RANGE);
+    CHECK_REFUSED(vermolgas_make_gains(VERMOLGAS_CAST(enum vermolgas_gain_colour, 257u), 0, gains, 1, 0),
+                  VERMOLGAS_REFUSED_RANGE);
+}
+
+/* The makers' commands on a device, and what the largest reads return. */
+static void a_session(void)
+{
+    struct vermolgas_point points[VERMOLGAS_WRITE_POINTS];
+    struct vermolgas_command command;
+    struct vermolgas_result result;
+    size_t i;
+
+    start();
+    for (i = 0; i < COUNT(points); i++)
+        points[i] = point_at(VERMOLGAS_CAST(unsigned, i), 7);
+    command = vermolgas_make_points(1858, points, COUNT(points), VERMOLGAS_OPTIONS_CHECKED);
+    result = send(&command);
+    CHECK(result.status == VERMOLGAS_ACCEPTED && result.reply_length == 4 && result.data == NULL);
+    command = vermolgas_make_read_points(1857, VERMOLGAS_READ_POINTS, VERMOLGAS_OPTION_CHECKSUM);
+    result = send(&command);
+    CHECK(result.reply_length == VERMOLGAS_LONGEST && result.data_length == 4 * VERMOLGAS_READ_POINTS);
+    CHECK(result.data != NULL && memcmp(result.data, device.staged + 4 * 1857, result.data_length) == 0);
+    CHECK(result.data != NULL && result.data[result.data_length - 4] == 125);
+
+    command = vermolgas_make_apply(true, 0);
+    CHECK(send(&command).status == VERMOLGAS_ACCEPTED);
+    CHECK(memcmp(device.staged, device.live, sizeof device.live) == 0);
+    command = vermolgas_make_shape(3, 2, 0);
+    CHECK(send(&command).status == VERMOLGAS_ACCEPTED);
+    command = vermolgas_make_points(6, points, 1, 0);
+    CHECK(send(&command).status == VERMOLGAS_REFUSED_PAST_TABLE);
+
+    /* A command that was not made is refused if it is sent. */
+    command = vermolgas_make_look(0x10000, 0);
+    CHECK(send(&command).status == VERMOLGAS_REFUSED_TOO_SHORT);
+}
+
+/* A map in which every third point moves, and the last one. */
+static void plan_a_map(void)
+{
+    size_t i;
+
+    start();
+    CHECK(vermolgas_upload_start(&upload, &device) == VERMOLGAS_ACCEPTED);
+    CHECK(upload.packets == 0 && upload.bytes == 0 && !memcmp(upload.held, upload.wanted, sizeof upload.held));
+    for (i = 0; i < VERMOLGAS_MOST_POINTS; i += 3)
+        CHECK(vermolgas_upload_want(&upload, i, point_at(VERMOLGAS_CAST(unsigned, i) + 1, 0x1234)) ==
+              VERMOLGAS_ACCEPTED);
+    CHECK(vermolgas_upload_want(&upload, 1983, point_at(5, 6)) == VERMOLGAS_ACCEPTED);
+    CHECK(bytes_are(upload.wanted + 4 * 3, 4, "04 00 34 12") && bytes_are(upload.wanted + 4 * 1983, 4, "05 00 06 00"));
+    CHECK(vermolgas_upload_plan(&upload, VERMOLGAS_MOST_POINTS) == VERMOLGAS_ACCEPTED);
+    CHECK(upload.packets > 1);
+}
+
+static void uploads(void)
+{
+    struct vermolgas_walk walk;
+    size_t packets = 0, bytes = 0;
+
+    plan_a_map();
+    walk = vermolgas_upload_walk(&upload);
+    CHECK(walk.packet == NULL && walk.length == 0);
+    while (vermolgas_walk_next(&walk)) {
+        CHECK(walk.packet == upload.batch + bytes && walk.length == 6 + 4 * walk.count);
+        CHECK(walk.packet[4] == (walk.start & 0xFF) && walk.packet[5] == walk.start >> 8);
+        CHECK(vermolgas_device_send(&device, walk.packet, walk.length, &reply).status == VERMOLGAS_ACCEPTED);
+        packets++;
+        bytes += walk.length;
+    }
+    CHECK(walk.status == VERMOLGAS_ACCEPTED && walk.packet == NULL && walk.length == 0);
+    CHECK(packets == upload.packets && bytes == upload.bytes);
+    CHECK(memcmp(device.staged, upload.wanted, sizeof device.staged) == 0);
+    CHECK(!vermolgas_walk_next(&walk));
+
+    CHECK(vermolgas_upload_hold(&upload, 0, point_at(1, 0x1234)) == VERMOLGAS_ACCEPTED);
+    CHECK(vermolgas_upload_plan(&upload, 1) == VERMOLGAS_ACCEPTED);
+    CHECK(upload.packets == 0 && upload.bytes == 0);
+    walk = vermolgas_upload_walk(&upload);
+    CHECK(!vermolgas_walk_next(&walk) && walk.status == VERMOLGAS_ACCEPTED);
+}
+
+/* The same packets with checksum and reply do the same. */
+static void checked_uploads(void)
+{
+    static const uint8_t other[] = {0x84, 0x60, 12};
+    struct vermolgas_walk walk;
+
+    plan_a_map();
+    walk = vermolgas_upload_walk(&upload);
+    CHECK(vermolgas_make_checked(walk.packet, walk.length).status == VERMOLGAS_REFUSED_TOO_SHORT);
+    while (vermolgas_walk_next(&walk)) {
+        struct vermolgas_command command = vermolgas_make_checked(walk.packet, walk.length);
+        struct vermolgas_result result = send(&command);
+        CHECK(command.status == VERMOLGAS_ACCEPTED && command.length == walk.length + 1);
+        CHECK(command.bytes[0] == 0x74 && memcmp(command.bytes + 1, walk.packet + 1, walk.length - 1) == 0);
+        CHECK(result.status == VERMOLGAS_ACCEPTED && result.reply_length == 4);
+    }
+    CHECK(memcmp(device.staged, upload.wanted, sizeof device.staged) == 0);
+    CHECK_MADE(vermolgas_make_checked(other, sizeof other), "E4 60 0C 50");
+    CHECK_REFUSED(vermolgas_make_checked(other, 2), VERMOLGAS_REFUSED_SIZE);
+    CHECK_REFUSED(vermolgas_make_checked(NULL, 3), VERMOLGAS_REFUSED_LENT);
+}
+
+/* Whether a walk over the upload as it is ends with status 1, within the batch. */
+static bool walk_ends(void)
+{
+    struct vermolgas_walk walk = vermolgas_upload_walk(&upload);
+    size_t end = sizeof upload.batch;
+
+    while (vermolgas_walk_next(&walk))
+        CHECK(walk.packet >= upload.batch && walk.packet + walk.length <= upload.batch + end);
+    return walk.status == VERMOLGAS_REFUSED_LENT && walk.packet == NULL && walk.length == 0;
+}
+
+/* Uploads that did not stay as planned, and walks that were led astray. */
+static void changed_uploads(void)
+{
+    struct vermolgas_walk walk;
+
+    plan_a_map();
+    walk = vermolgas_upload_walk(&upload);
+    walk.next_offset = SIZE_MAX;
+    CHECK(!vermolgas_walk_next(&walk) && walk.status == VERMOLGAS_REFUSED_LENT);
+    upload_before = upload;
+    upload.packets++;
+    CHECK(walk_ends());
+    upload.packets = SIZE_MAX;
+    CHECK(walk_ends());
+    walk = vermolgas_upload_walk(&upload);
+    walk.next = SIZE_MAX / 8;
+    CHECK(!vermolgas_walk_next(&walk) && walk.status == VERMOLGAS_REFUSED_LENT);
+    upload.bytes = SIZE_MAX;
+    CHECK(walk_ends());
+    upload = upload_before;
+    upload.bytes--;
+    CHECK(walk_ends());
+    upload = upload_before;
+    upload.plan[2] = 0xFF;
+    upload.plan[3] = 0xFF;
+    CHECK(walk_ends());
+    memset(&upload, 0xFF, sizeof upload);
+    CHECK(walk_ends());
+    memset(upload.plan, 0, sizeof upload.plan); /* packets without points, more of them than a plan has */
+    upload.bytes = sizeof upload.batch;
+    CHECK(walk_ends());
+}
+
+/* Arguments that are nothing, or out of range: a status, and no byte is written. */
+static void bad_arguments(void)
+{
+    struct vermolgas_walk walk = vermolgas_upload_walk(NULL);
+    uint8_t packet[] = {0x84, 0x11};
+
+    plan_a_map();
+    keep();
+    CHECK(vermolgas_device_reset(NULL) == VERMOLGAS_REFUSED_LENT);
+    CHECK(vermolgas_device_send(NULL, packet, 2, &reply).status == VERMOLGAS_REFUSED_LENT);
+    CHECK(vermolgas_device_send(&device, packet, 2, NULL).status == VERMOLGAS_REFUSED_LENT);
+    CHECK(vermolgas_device_send(&device, NULL, 2, &reply).status == VERMOLGAS_REFUSED_LENT);
+    CHECK(vermolgas_device_send(NULL, NULL, 0, NULL).status == VERMOLGAS_REFUSED_LENT);
+    CHECK(vermolgas_reply_read(NULL, 3, false).line_status == VERMOLGAS_REFUSED_LENT);
+    CHECK(vermolgas_reply_read(NULL, 3, false).device_status == VERMOLGAS_REFUSED_LENT);
+    CHECK(vermolgas_upload_start(NULL, &device) == VERMOLGAS_REFUSED_LENT);
+    CHECK(vermolgas_upload_start(&upload, NULL) == VERMOLGAS_REFUSED_LENT);
+    CHECK(vermolgas_upload_hold(NULL, 0, point_at(0, 0)) == VERMOLGAS_REFUSED_LENT);
+    CHECK(vermolgas_upload_want(NULL, 0, point_at(0, 0)) == VERMOLGAS_REFUSED_LENT);
+    CHECK(vermolgas_upload_hold(&upload, 1984, point_at(9, 9)) == VERMOLGAS_REFUSED_PAST_TABLE);
+    CHECK(vermolgas_upload_want(&upload, SIZE_MAX, point_at(9, 9)) == VERMOLGAS_REFUSED_PAST_TABLE);
+    CHECK(vermolgas_upload_plan(NULL, 1) == VERMOLGAS_REFUSED_LENT);
+    CHECK(vermolgas_upload_plan(&upload, 0) == VERMOLGAS_REFUSED_RANGE);
+    CHECK(vermolgas_upload_plan(&upload, 1985) == VERMOLGAS_REFUSED_RANGE);
+    CHECK(vermolgas_upload_plan(&upload, UINT32_MAX) == VERMOLGAS_REFUSED_RANGE);
+    CHECK(walk.status == VERMOLGAS_REFUSED_LENT && !vermolgas_walk_next(&walk) && walk.packet == NULL);
+    CHECK(!vermolgas_walk_next(NULL));
+    CHECK(kept());
+
+    /* A device that was never reset: refusal 1 is the front end's own. */
+    memset(&device, 0xFF, sizeof device);
+    keep();
+    CHECK(vermolgas_device_send(&device, packet, 2, &reply).status == VERMOLGAS_REFUSED_LENT);
+    CHECK(kept());
+}
+
+static void words(void)
+{
+    unsigned number, other;
+
+    for (number = 0; number <= 12; number++) {
+        const char *text = vermolgas_refusal_text(number);
+        CHECK(text[0] != '\0' && strchr(text, '\n') == NULL);
+        for (other = 0; other < number; other++)
+            CHECK(strcmp(text, vermolgas_refusal_text(other)) != 0);
+        CHECK(strcmp(text, vermolgas_refusal_text(UINT_MAX)) != 0);
+    }
+    CHECK(strcmp(vermolgas_refusal_text(0), "accepted") == 0);
+    CHECK(strcmp(vermolgas_refusal_text(99), "no such refusal") == 0);
+}
+
+static void version(void)
+{
+    CHECK(VERMOLGAS_VERSION ==
+          10000 * VERMOLGAS_VERSION_MAJOR + 100 * VERMOLGAS_VERSION_MINOR + VERMOLGAS_VERSION_PATCH);
+    CHECK(VERMOLGAS_VERSION > 0 && VERMOLGAS_VERSION_MINOR < 100 && VERMOLGAS_VERSION_PATCH < 100);
+}
+
+static const struct group groups[] = {
+    {"opcodes", opcodes},
+    {"named values", named_values},
+    {"listed control points", listed_control_points},
+    {"sending", sending},
+    {"replies", replies},
+    {"makers", makers},
+    {"makers refused", makers_refused},
+    {"tables refused", tables_refused},
+    {"a session", a_session},
+    {"uploads", uploads},
+    {"checked uploads", checked_uploads},
+    {"changed uploads", changed_uploads},
+    {"bad arguments", bad_arguments},
+    {"words", words},
+    {"version", version},
+};
+
+int main(void)
+{
+    return RUN_GROUPS(groups);
+}
