@@ -81,9 +81,12 @@ onward n f fs k t b =
     let e : n + (k - n) ≡ k = omega (arith, behind n k b) in
     each-same f (drop n fs) (k - n) t ∙ rw (getD-drop n fs (k - n) f, e)
 
--- The field of an arm: it is each field of the command that is the arm's key.
-pub only : (f : Field) (o op k : ℕ) → T (all (same f) (commandOf o .sets)) → op ≡ o → f ≡ getD (commandOf op .sets) k f
-only f o op k t e = rw e (each-same f (commandOf o .sets) k t)
+-- The field of an arm, a constant or what a call gives: it is each field of the command that is the arm's key.
+pub only : (o op k : ℕ) (f : Field) → op ≡ o → T (all (same f) (commandOf o .sets)) → f ≡ getD (commandOf op .sets) k f
+only o op k f e t = rw e (each-same f (commandOf o .sets) k t)
+
+pub only-call : (o op k : ℕ) (r f : Field) → op ≡ o → r ≡ f → T (all (same f) (commandOf o .sets)) → r ≡ getD (commandOf op .sets) k r
+only-call o op k r f e g t = rw g (only o op k f e t)
 
 -- What a default knows behind arms of these keys, the last arm first.
 abbrev pub NoKey : List ℕ → ℕ → Type 0

@@ -78,17 +78,6 @@ fn set_field(opcode: usize, k: usize) -> Field
     }
 }
 
-// The k-th field of a read's data, where there is one: but for these two what a write starts with, the pin or port.
-fn asked_field(opcode: usize, k: usize) -> Field
-    ensures { λ r. ⌜ r ≡ getD (commandOf opcode .asks) k r ⌝ }
-{
-    match opcode {
-        0x2B => gains_asked(k),
-        0x34 => points_asked(k),
-        _ => set_field(opcode, k),
-    }
-}
-
 // 2Bh: compression, colour, count, start.
 fn gains_field(k: usize) -> Field
     ensures { λ r. ⌜ r ≡ getD (commandOf 0x2B .sets) k r ⌝ }
@@ -173,15 +162,20 @@ fn uart_field(k: usize) -> Field
     }
 }
 
-// The k-th field of a read's data or of a write's, where there is one.
+// The k-th field of a read's data or of a write's, where there is one. But for two commands a read sends nothing, or the pin or port
+// that a write starts with. That set_field has one caller lets a compiler put it into the loop of fault.
 fn field_of(opcode: usize, reads: bool, k: usize) -> Field
     ensures { λ r. ⌜ r ≡ getD (sent opcode reads) k r ⌝ }
 {
     if reads {
-        asked_field(opcode, k)
-    } else {
-        set_field(opcode, k)
+        if opcode == 0x2B {
+            return gains_asked(k);
+        }
+        if opcode == 0x34 {
+            return points_asked(k);
+        }
     }
+    set_field(opcode, k)
 }
 
 // The number of one, two or four bytes at a place.

@@ -1,4 +1,4 @@
-// The ends of ranges that stored settings share with the fields of a packet (rules 5.1 and 5.4 to 5.8). One that starts at 0 has its end alone.
+// The ends of ranges that stored settings share with the fields of packets (rules 5.1, 5.5 and 5.7). A range from 0 has its end alone.
 pub const MOST_DISPLAY: usize = 4;
 
 pub const MOST_COLOUR: usize = 8;

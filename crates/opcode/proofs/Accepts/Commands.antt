@@ -34,7 +34,8 @@ of-each P n e op = walk P n commands e op
 pub of-all : (P : Command → Type 0) → P none → Each P commands → (op : ℕ) → P (commandOf op)
 of-all P n e op = of-each (λ op c. P c) (λ op. n) e op
 
-if-carried : (P : ℕ → Type 0) (cs : List Command) → Each (λ c. P (c .opcode)) cs → Each (λ c. eqb (c .mark) notCarried ≡ false → P (c .opcode)) cs
+if-carried : (P : ℕ → Type 0) (cs : List Command) → Each (λ c. P (c .opcode)) cs
+    → Each (λ c. eqb (c .mark) notCarried ≡ false → P (c .opcode)) cs
 if-carried P [] e = tt
 if-carried P (c ∷ cs) e = (λ h. e .0, if-carried P cs (e .1))
 

@@ -1,4 +1,4 @@
--- The loop keeps what is left to judge: the answer is that of the rest of the fields from the place reached, and these have the rest of the bytes.
+-- The loop keeps what is left to judge: the answer is that of the rest of the fields, which have the rest of the bytes, from the place reached.
 use mathlib.Core.Path.{_≡_, refl, sym, _∙_}
 use Prim.Native.Nat.{_+_, _-_, _≤_}
 use native.Mathlib.Omega.{arith}
@@ -51,7 +51,8 @@ loop-again c =
     let grown = span-turn (args .opcode) (args .reads) (at-loop .loop .k) (called .before .field-of .ensures) (omega arith) in
     let turn =
     fault-turn (args .opcode) (args .reads) (at-loop .loop .k) (called .before .field-of .ensures) (omega arith)
-    (args .«data» .now) (at-loop .loop .at) (called .number .ensures .0) (c .before .before .field-takes .ensures) (not-false _ (c .before .if1 .left)) in
+    (args .«data» .now) (at-loop .loop .at) (called .number .ensures .0)
+    (c .before .before .field-takes .ensures) (not-false _ (c .before .if1 .left)) in
     (omega arith, omega arith, at-loop .loop .inv .2 ∙ turn)
 
 returns-2 : tie.Need-returns-2 Inv-loop μ-loop

@@ -4,6 +4,12 @@ use Rattle.opcode.proofs.Rows.{same, onward}
 use Rattle.opcode.proofs.fields.pin_field.Statement.{statement}
 use Rattle.opcode.proofs.fields.pin_field.Tie as tie
 
+returns-2 : tie.Need-returns-2
+unfolding commandOf same
+returns-2 c =
+    let k = c .before .args .k in
+    (onward 1 _ (commandOf 0x60 .sets) k tt (c .match .rest), onward 1 _ (commandOf 0x61 .sets) k tt (c .match .rest))
+
 pub pin-field-spec : {M : Type 1} → statement M
 unfolding commandOf same
 pin-field-spec =
@@ -11,4 +17,4 @@ pin-field-spec =
     (tie.spec
     (λ c κs. tt)
     (λ c. (cc, cc))
-    (λ c. (onward 1 _ (commandOf 0x60 .sets) (c .before .args .k) tt (c .match .rest), onward 1 _ (commandOf 0x61 .sets) (c .before .args .k) tt (c .match .rest))))
+    returns-2)

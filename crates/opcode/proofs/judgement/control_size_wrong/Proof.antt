@@ -4,6 +4,12 @@ use Rattle.opcode.specs.Judgement.{controlSizeWrong}
 use Rattle.opcode.proofs.judgement.control_size_wrong.Statement.{statement}
 use Rattle.opcode.proofs.judgement.control_size_wrong.Tie as tie
 
+returns-4 : tie.Need-returns-4
+unfolding controlSizeWrong
+returns-4 c =
+    let mode = c .before .before in
+    simp (ne-eqb _ _ (mode .before .if1 .left), ← mode .byte .ensures .0, ne-eqb _ _ (c .before .if2 .left), ne-eqb _ _ (c .if3 .left))
+
 pub control-size-wrong-spec : {M : Type 1} → statement M
 unfolding controlSizeWrong
 control-size-wrong-spec =
@@ -13,4 +19,4 @@ control-size-wrong-spec =
     (λ c κs. tt)
     (λ c. simp (ne-eqb _ _ (c .before .before .if1 .left), ← c .before .byte .ensures .0, c .if2 .taken))
     (λ c. simp (ne-eqb _ _ (c .before .before .before .if1 .left), ← c .before .before .byte .ensures .0, c .if3 .taken))
-    (λ c. simp (ne-eqb _ _ (c .before .before .before .if1 .left), ← c .before .before .byte .ensures .0, ne-eqb _ _ (c .before .if2 .left), ne-eqb _ _ (c .if3 .left))))
+    returns-4)

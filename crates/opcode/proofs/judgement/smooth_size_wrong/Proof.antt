@@ -8,6 +8,18 @@ use Rattle.opcode.proofs.Laws.{product}
 use Rattle.opcode.proofs.judgement.smooth_size_wrong.Statement.{statement}
 use Rattle.opcode.proofs.judgement.smooth_size_wrong.Tie as tie
 
+returns-3 : tie.Need-returns-3
+unfolding smoothSizeWrong
+returns-3 c =
+    let head = c .before .before in
+    simp (
+      le-ltb _ _ (head .before .before .if1 .left),
+      ← head .before .fault .ensures,
+      le-ltb _ _ (head .if2 .left),
+      ← c .before .byte .ensures .0,
+      ← c .byte2 .ensures .0,
+    )
+
 pub smooth-size-wrong-spec : {M : Type 1} → statement M
 unfolding commandOf smoothSizeWrong
 smooth-size-wrong-spec =
@@ -21,4 +33,4 @@ smooth-size-wrong-spec =
     (λ c. omega (arith, product (c .before .byte .result) (c .byte2 .result) (omega arith) (omega arith)))
     (λ c. omega (arith, product (c .before .byte .result) (c .byte2 .result) (omega arith) (omega arith)))
     (λ c. omega (arith, product (c .before .byte .result) (c .byte2 .result) (omega arith) (omega arith)))
-    (λ c. simp (le-ltb _ _ (c .before .before .before .before .if1 .left), ← c .before .before .before .fault .ensures, le-ltb _ _ (c .before .before .if2 .left), ← c .before .byte .ensures .0, ← c .byte2 .ensures .0)))
+    returns-3)

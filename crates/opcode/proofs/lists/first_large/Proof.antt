@@ -4,7 +4,6 @@ use Prim.Native.Nat.{_+_, _*_, _-_, _≤_}
 use native.Mathlib.Omega.{arith}
 use Rattle.opcode.specs.Fields.{wordsAt, firstLarge}
 use Rattle.opcode.proofs.Laws.{words-start, gains-turn, gains-stop, gains-done}
-use borrow.Author.Needs.{needs}
 use Rattle.opcode.proofs.lists.first_large.Statement.{statement}
 use Rattle.opcode.proofs.lists.first_large.Tie as tie
 
@@ -14,29 +13,11 @@ Inv-loop s at count i₀ i = (i ≤ count) × (firstLarge (wordsAt s at count) �
 abbrev μ-loop : tie.MeasureT-loop
 μ-loop s at count i₀ i = count - i
 
-loop-holds : tie.Need-loop-holds Inv-loop μ-loop
-loop-holds c = (omega arith, rw words-start (omega arith))
-
-mul-word : tie.Need-mul-word Inv-loop μ-loop
-mul-word c = omega arith
-
-add-word : tie.Need-add-word Inv-loop μ-loop
-add-word c = omega arith
-
-word-requires : tie.Need-word-requires Inv-loop μ-loop
-word-requires c κs = search needs
-
 returns : tie.Need-returns Inv-loop μ-loop
 returns c =
     let at-loop = c .before .before .before in
     let args = at-loop .before .before .args in
     omega (arith, gains-stop (args .s .now) (args .at) (args .count) (at-loop .loop .i) (omega arith) (omega arith))
-
-add-i : tie.Need-add-i Inv-loop μ-loop
-add-i c = omega arith
-
-loop-less : tie.Need-loop-less Inv-loop μ-loop
-loop-less c = omega arith
 
 loop-again : tie.Need-loop-again Inv-loop μ-loop
 loop-again c =
@@ -56,12 +37,12 @@ first-large-spec =
     (tie.spec
     Inv-loop
     μ-loop
-    loop-holds
-    mul-word
-    add-word
-    word-requires
+    (λ c. (omega arith, rw words-start (omega arith)))
+    (λ c. omega arith)
+    (λ c. omega arith)
+    (λ c κs. tt)
     returns
-    add-i
-    loop-less
+    (λ c. omega arith)
+    (λ c. omega arith)
     loop-again
     returns-2)

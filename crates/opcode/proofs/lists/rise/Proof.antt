@@ -4,7 +4,6 @@ use Prim.Native.Nat.{_+_, _*_, _-_, _≤_}
 use native.Mathlib.Omega.{arith}
 use Rattle.opcode.specs.Fields.{wordsAt, «rise», riseFrom}
 use Rattle.opcode.proofs.Laws.{rise-none, rise-start, rise-turn, rise-stop, rise-done}
-use borrow.Author.Needs.{needs}
 use Rattle.opcode.proofs.lists.rise.Statement.{statement}
 use Rattle.opcode.proofs.lists.rise.Tie as tie
 
@@ -19,35 +18,17 @@ returns c =
     let args = c .before .before .args in
     omega (arith, rise-none (args .s .now) (args .at) (args .count) (c .if1 .taken))
 
-word-requires : tie.Need-word-requires Inv-loop μ-loop
-word-requires c κs = search needs
-
 loop-holds : tie.Need-loop-holds Inv-loop μ-loop
 loop-holds c =
     let args = c .before .before .before .args in
     let e = rise-start (args .s .now) (args .at) (args .count) (omega arith) in
     (omega arith, omega (arith, rw (← c .word .ensures .0) at e))
 
-mul-word : tie.Need-mul-word Inv-loop μ-loop
-mul-word c = omega arith
-
-add-word : tie.Need-add-word Inv-loop μ-loop
-add-word c = omega arith
-
-word-requires-2 : tie.Need-word-requires-2 Inv-loop μ-loop
-word-requires-2 c κs = search needs
-
 returns-2 : tie.Need-returns-2 Inv-loop μ-loop
 returns-2 c =
     let at-loop = c .before .before .before in
     let args = at-loop .before .before .before .before .args in
     omega (arith, rise-stop (args .s .now) (args .at) (args .count) (at-loop .loop .i) (at-loop .loop .last) (omega arith) (omega arith))
-
-add-i : tie.Need-add-i Inv-loop μ-loop
-add-i c = omega arith
-
-loop-less : tie.Need-loop-less Inv-loop μ-loop
-loop-less c = omega arith
 
 loop-again : tie.Need-loop-again Inv-loop μ-loop
 loop-again c =
@@ -70,13 +51,13 @@ rise-spec =
     Inv-loop
     μ-loop
     returns
-    word-requires
+    (λ c κs. tt)
     loop-holds
-    mul-word
-    add-word
-    word-requires-2
+    (λ c. omega arith)
+    (λ c. omega arith)
+    (λ c κs. tt)
     returns-2
-    add-i
-    loop-less
+    (λ c. omega arith)
+    (λ c. omega arith)
     loop-again
     returns-3)

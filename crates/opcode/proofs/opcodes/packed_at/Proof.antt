@@ -30,21 +30,12 @@ rows =
 right : ℕ → ℕ → Bool
 right op x = sized x (commandOf op)
 
-returns : tie.Need-returns
-unfolding sized
-returns c = rw (beyond (c .before .args .opcode) (c .if1 .taken)) (sizing 0 none tt)
-
-mul-result : tie.Need-mul-result
-mul-result c = search needs
-
-array-read-result : tie.Need-array-read-result
-array-read-result c = search needs
-
-returns-2 : tie.Need-returns-2
-unfolding commandOf sized rows right
-returns-2 c =
-    let op = c .before .args .opcode in
-    sizing (getD rows op 0) (commandOf op) (everywhere right 0 rows tt op (search needs))
-
 pub packed-at-spec : {M : Type 1} → statement M
-packed-at-spec = tie.close (tie.spec returns mul-result array-read-result returns-2)
+unfolding commandOf sized rows right
+packed-at-spec =
+    tie.close
+    (tie.spec
+    (λ c. rw (beyond (c .before .args .opcode) (c .if1 .taken)) (sizing 0 none tt))
+    (λ c. search needs)
+    (λ c. search needs)
+    (λ c. let op = c .before .args .opcode in sizing (getD rows op 0) (commandOf op) (everywhere right 0 rows tt op (search needs))))
