@@ -199,7 +199,7 @@ fn field_takes(f: Field, v: usize) -> bool
 }
 
 // The place of the first field at fault among those of a read's data or of a write's, size bytes in all; size for none.
-pub fn fault(opcode: usize, reads: bool, size: usize, data: &[u8]) -> usize
+pub(crate) fn fault(opcode: usize, reads: bool, size: usize, data: &[u8]) -> usize
     requires { ⌜ size ≡ span (sent opcode reads) ⌝ }
     ensures { λ r. ⌜ r ≡ «fault» (sent opcode reads) (now («data» .entry)) 0 ⌝ }
 {

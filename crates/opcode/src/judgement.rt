@@ -55,13 +55,6 @@ fn lacks_length(row: Row, opcode: usize, options: usize) -> bool
     (options / 128 % 2 == 0) & (row.mark == VARIABLE) & (options / 16 % 2 == 0)
 }
 
-// 11: merge mode of 39h and compression of 2Bh.
-fn named_only(opcode: usize, options: usize, data: &[u8]) -> bool
-    ensures { λ r. ⌜ r ≡ namedOnly opcode options (now («data» .entry)) ⌝ }
-{
-    (options / 128 % 2 == 0) & ((opcode == 0x39) | (opcode == 0x2B)) & (wire::byte(data, 0) == 1)
-}
-
 // 9: the size is wrong for the command.
 fn size_wrong(row: Row, opcode: usize, options: usize, data: &[u8]) -> bool
     requires { ⌜ row ≡ rowOf opcode ⌝ }
@@ -200,4 +193,11 @@ fn smooth_fault(data: &[u8]) -> usize
         return head;
     }
     data.len()
+}
+
+// 11: merge mode of 39h and compression of 2Bh.
+fn named_only(opcode: usize, options: usize, data: &[u8]) -> bool
+    ensures { λ r. ⌜ r ≡ namedOnly opcode options (now («data» .entry)) ⌝ }
+{
+    (options / 128 % 2 == 0) & ((opcode == 0x39) | (opcode == 0x2B)) & (wire::byte(data, 0) == 1)
 }

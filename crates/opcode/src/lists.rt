@@ -4,7 +4,7 @@ ghost use Prim.Native.Nat.{_≤_};
 ghost use Rattle.opcode.specs.Fields.{wordsAt, «rise», firstLarge};
 
 // The index of the first of count numbers from a place on that is not above the one before it, count for none.
-pub fn rise(s: &[u8], at: usize, count: usize) -> usize
+pub(crate) fn rise(s: &[u8], at: usize, count: usize) -> usize
     requires { ⌜ (at ≤ 65536) × (count ≤ 65536) ⌝ }
     ensures { λ r. ⌜ (r ≡ «rise» (wordsAt (now (s .entry)) at count)) × (r ≤ count) ⌝ }
 {
@@ -25,7 +25,7 @@ pub fn rise(s: &[u8], at: usize, count: usize) -> usize
 }
 
 // The index of the first of count gains from a place on that is above 8191, count for none.
-pub fn first_large(s: &[u8], at: usize, count: usize) -> usize
+pub(crate) fn first_large(s: &[u8], at: usize, count: usize) -> usize
     requires { ⌜ (at ≤ 65536) × (count ≤ 65536) ⌝ }
     ensures { λ r. ⌜ (r ≡ firstLarge (wordsAt (now (s .entry)) at count)) × (r ≤ count) ⌝ }
 {

@@ -5,9 +5,9 @@ ghost use Rattle.opcode.specs.Commands.{commandOf, rowOf};
 ghost use Rattle.opcode.specs.Internal.{Sized};
 
 // The marks, beside 1 of a command whose sizes are fixed.
-pub const NOT_CARRIED: usize = 0;
+pub(crate) const NOT_CARRIED: usize = 0;
 
-pub const VARIABLE: usize = 2;
+pub(crate) const VARIABLE: usize = 2;
 
 // A row a line, a hexadecimal digit for each of mark and sizes in their order.
 const ROWS: [u16; 256] = [
