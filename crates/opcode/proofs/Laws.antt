@@ -1,30 +1,21 @@
 -- What the loops keep: fields and words are passed one at a time.
-use Prim.Native.Nat.{ℕ, suc, _+_, _*_, _-_, _≤_, _<_}
-use mathlib.Core.Path.{_≡_, refl}
+use Prim.Native.Nat.{ℕ, zero, suc, _+_, _*_, _-_, _≤_, _<_}
+use mathlib.Core.Path.{_≡_, refl, sym, ap, _∙_}
 use mathlib.Core.Bool.{Bool, true, false}
 use mathlib.Core.List.{List, [], _∷_}
+use native.Mathlib.Decide.{decLt}
+use native.Mathlib.Nat.{mul-le-mul-left}
+use native.Mathlib.Numerals.{add-one}
 use native.Mathlib.Omega.{arith}
 use borrow.Author.Tests.{lt-ltb, le-ltb, le-leb, lt-leb}
-use lib.Dec.{leb, leb→le}
-use lib.ListN.{length, getD, take, drop}
-use lib.Seq.{take-add, drop-at, length-take-le, slice, slice-empty, slice-cons}
+use lib.ListN.{length, getD, drop, drop-of-length-le}
+use lib.Seq.{drop-cons}
 use Rattle.wire.specs.Numbers.{wordAt}
 use Rattle.opcode.specs.declared.Field.{Field}
-use Rattle.opcode.specs.Fields.{fault, takes, number, wordsAt, rise, riseFrom, firstLarge}
-use Rattle.opcode.specs.Internal.{noField, fieldList, fieldsFrom}
-use Rattle.opcode.proofs.Table.{everywhere}
-
-length-fields : length fieldList ≡ 41
-unfolding fieldList
-length-fields = refl
-
--- No field is longer than 4 bytes.
-short : ℕ → Field → Bool
-short i f = leb (f .size) 4
-
-pub size-small : (i : ℕ) (f : Field) → i < 41 → f ≡ getD fieldList i noField → f .size ≤ 4
-unfolding fieldList short
-size-small i f h e = rw e (leb→le (getD fieldList i noField .size) 4 (everywhere short noField fieldList tt i h))
+use Rattle.opcode.specs.Fields.{span, fault, takes, number, wordsAt, rise, riseFrom, firstLarge}
+use Rattle.opcode.specs.Internal.{sent}
+use Rattle.opcode.proofs.Accepts.Fields.{least}
+use Rattle.opcode.proofs.Accepts.Commands.{asks-sized, sets-sized}
 
 -- Words, from the i-th on: all of them, one that is passed, and the end. Then how far they are in range (rule 5.8), and how far
 -- they rise (rule 5.5).
@@ -83,33 +74,50 @@ module _ (s : List ℕ) (at count : ℕ) where
   unfolding rise
   rise-start h = let here : at + 2 * 0 ≡ at = omega arith in rw (← words-start, words-turn 0 h, here)
 
--- Fields, from the k-th on: before the loop, a field that takes its number, one that does not, and the end.
-module _ (first count : ℕ) (within : first + count ≤ 41) (d : List ℕ) where
-  pub fault-start : (at : ℕ) → fault (slice (first + 0) (first + count) fieldList) d at ≡ fault (fieldsFrom first count) d at
-  fault-start at =
-      let here : first + 0 ≡ first = omega arith in
-      let before : length (take first fieldList) ≡ first = length-take-le first fieldList (rw length-fields (omega arith)) in
-      rw (here, take-add first count fieldList, drop-at (take first fieldList) (take count (drop first fieldList)) first before)
+-- Fields, from the k-th on: each has bytes, and they end where their bytes do.
+sent-sized : (op : ℕ) (reads : Bool) → 0 < least (sent op reads)
+sent-sized op true = asks-sized op
+sent-sized op false = sets-sized op
 
-  fields-turn : (k : ℕ) → k < count
-      → slice (first + k) (first + count) fieldList ≡ getD fieldList (first + k) noField ∷ slice (first + (k + 1)) (first + count) fieldList
-  fields-turn k h =
-      let next : first + (k + 1) ≡ suc (first + k) = omega arith in
-      rw next (slice-cons (first + k) (first + count) fieldList noField (omega arith) (rw length-fields within))
+rest-sized : (fs : List Field) (k : ℕ) → 0 < least fs → 0 < least (drop k fs)
+rest-sized fs zero s = s
+rest-sized [] (suc k) s = s
+rest-sized (f ∷ fs) (suc k) s = rest-sized fs k (omega arith)
 
-  -- The k-th field, the number that stands in its place, and whether it takes it.
-  module _ (k at : ℕ) (h : k < count) {f : Field} {v : ℕ} {r : Bool}
-      (field : f ≡ getD fieldList (first + k) noField) (is : v ≡ number (f .size) d at) (answer : r ≡ takes f v) where
-    pub fault-turn : r ≡ true
-        → fault (slice (first + k) (first + count) fieldList) d at
-        ≡ fault (slice (first + (k + 1)) (first + count) fieldList) d (at + f .size)
-    unfolding fault
-    fault-turn t = rw (fields-turn k h, ← field, ← is, ← answer, t)
+spanless : (fs : List Field) → 0 < least fs → span fs ≡ 0 → fs ≡ []
+spanless [] s e = refl
+spanless (f ∷ fs) s e = absurd (omega arith)
 
-    pub fault-stop : r ≡ false → fault (slice (first + k) (first + count) fieldList) d at ≡ at
-    unfolding fault
-    fault-stop t = rw (fields-turn k h, ← field, ← is, ← answer, t)
+module _ (op : ℕ) (reads : Bool) (k : ℕ) where
+  left-sized : 0 < least (drop k (sent op reads))
+  left-sized = rest-sized (sent op reads) k (sent-sized op reads)
 
-  pub fault-done : (k at : ℕ) → k ≡ count → fault (slice (first + k) (first + count) fieldList) d at ≡ at
+  pub fault-done : (d : List ℕ) (at : ℕ) → span (drop k (sent op reads)) ≡ 0 → fault (drop k (sent op reads)) d at ≡ at
   unfolding fault
-  fault-done k at e = rw (e, slice-empty (first + count) fieldList)
+  fault-done d at e = rw (spanless (drop k (sent op reads)) left-sized e)
+
+  -- f being the first of them.
+  module _ {f : Field} (field : f ≡ getD (sent op reads) k f) (more : 0 < span (drop k (sent op reads))) where
+    fields-turn : drop k (sent op reads) ≡ f ∷ drop (k + 1) (sent op reads)
+    fields-turn =
+        elim (decLt k (length (sent op reads))) [
+          | yes h ↦ rw (add-one k) (drop-cons (sent op reads) k f h ∙ ap (λ g. g ∷ drop (suc k) (sent op reads)) (sym field))
+          | no h ↦ absurd (omega (arith, ap span (drop-of-length-le (sent op reads) {i = k} (omega arith))))
+        ]
+
+    pub span-turn : (0 < f .size) × (span (drop k (sent op reads)) ≡ f .size + span (drop (k + 1) (sent op reads)))
+    span-turn = let rest = rw fields-turn at left-sized in (omega arith, ap span fields-turn)
+
+    -- The number that stands in its place, and whether it takes it.
+    module _ (d : List ℕ) (at : ℕ) {v : ℕ} {r : Bool} (is : v ≡ number (f .size) d at) (answer : r ≡ takes f v) where
+      pub fault-turn : r ≡ true → fault (drop k (sent op reads)) d at ≡ fault (drop (k + 1) (sent op reads)) d (at + f .size)
+      unfolding fault
+      fault-turn t = rw (fields-turn, ← is, ← answer, t)
+
+      pub fault-stop : r ≡ false → fault (drop k (sent op reads)) d at ≡ at
+      unfolding fault
+      fault-stop t = rw (fields-turn, ← is, ← answer, t)
+
+-- Two bytes multiplied.
+pub product : (m n : ℕ) → m < 256 → n < 256 → m * n < 65536
+product m n hm hn = let most : n ≤ 255 = omega arith in omega (arith, mul-le-mul-left m most)

@@ -20,6 +20,11 @@ byte low high = from-to 1 low high
 abbrev pub word : ℕ → ℕ → Field
 word low high = from-to 2 low high
 
+-- The bytes of fields that stand one behind the other.
+abbrev pub span : List Field → ℕ
+span [] = 0
+span (f ∷ fs) = f .size + span fs
+
 -- Whether a field takes a number.
 abbrev pub takes : Field → ℕ → Bool
 takes f v = leb (f .low) v && leb v (f .high) && not (leb (f .gap) v && ltb v (f .past))

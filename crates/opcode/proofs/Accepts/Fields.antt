@@ -11,6 +11,7 @@ use lib.Dec.{eqb, leb, ltb}
 use borrow.Author.Tests.{ltb-false, eqb-true, not-false, le-leb, lt-leb, le-ltb, eq-eqb}
 use Rattle.opcode.specs.declared.Field.{Field}
 use Rattle.opcode.specs.Fields.{takes, number, fault}
+pub use Rattle.opcode.specs.Fields.{span}
 use Rattle.wire.proofs.Tests.{told}
 use Rattle.opcode.proofs.Accepts.Lists.{bytesAt, exactly}
 
@@ -65,11 +66,6 @@ fault-here f fs d at h = rw (not-taken (takes f (number (f .size) d at)) (λ e. 
 abbrev pub All : List Field → List ℕ → ℕ → Type 0
 All [] d at = Unit
 All (f ∷ fs) d at = Within f (number (f .size) d at) × All fs d (at + f .size)
-
--- The bytes of a run.
-abbrev pub span : List Field → ℕ
-span [] = 0
-span (f ∷ fs) = f .size + span fs
 
 -- The least size of a field.
 abbrev pub least : List Field → ℕ

@@ -3,6 +3,7 @@ use Prim.Native.Nat.{ℕ}
 use mathlib.Core.Path.{_≡_}
 use mathlib.Core.Bool.{Bool, false, cond, not, _&&_, _||_}
 use mathlib.Core.List.{List}
+use native.Mathlib.Omega.{arith}
 use lib.ListN.{length}
 use lib.Dec.{eqb, ltb}
 use Rattle.wire.specs.Numbers.{byteAt}
@@ -39,8 +40,11 @@ abbrev pub RightWrite : ℕ → List ℕ → Type 0
 RightWrite op d = Right (commandOf op .write) (commandOf op .sets) d
 
 pub right-passes : {op : ℕ} {d : List ℕ} → commandOf op .mark ≡ fixed → RightWrite op d → namedWrite op d ≡ false → Passes op d
-right-passes {op} {d} m r n = record { size = rw m (right-size r); value = rw m (right-value (sets-span op m) r); namedOnly = n }
+right-passes {op} {d} m r n =
+    let span = sets-span op (omega arith) in
+    record { size = rw m (right-size r); value = rw m (right-value span r); namedOnly = n }
 
 pub passes-right : (op : ℕ) (d : List ℕ) → commandOf op .mark ≡ fixed → Passes op d → RightWrite op d
 passes-right op d m p =
-    tests-right (commandOf op .write) (commandOf op .sets) d (sets-sized op) (sets-span op m) (rw m at (p .size)) (rw m at (p .value))
+    let span = sets-span op (omega arith) in
+    tests-right (commandOf op .write) (commandOf op .sets) d (sets-sized op) span (rw m at (p .size)) (rw m at (p .value))

@@ -1,0 +1,56 @@
+-- Each test is the definition's, in its order.
+use Prim.Native.Nat.{ℕ}
+use mathlib.Core.Path.{_≡_, sym, _∙_}
+use mathlib.Core.List.{List}
+use borrow.Author.Tests.{lt-ltb, le-ltb}
+use lib.ListN.{drop}
+use Rattle.wire.specs.First.{first}
+use Rattle.opcode.specs.Judgement.{judgement}
+use Rattle.opcode.proofs.judgement.judge.Statement.{statement}
+use Rattle.opcode.proofs.judgement.judge.Tie as tie
+
+-- The first n tests do not hold.
+abbrev Past : ℕ → ℕ → ℕ → List ℕ → Type 0
+Past n op o d = first (judgement op o d) ≡ first (drop n (judgement op o d))
+
+past-7 : (c : tie.Else1)
+    → let args = c .before .before .before .before .args in
+    Past 1 (args .opcode) (args .options) (args .«data» .now)
+unfolding judgement
+past-7 c = simp (← c .before .unknown .ensures, c .if1 .left)
+
+past-8 : (c : tie.Else2)
+    → let args = c .before .before .before .before .before .before .args in
+    Past 2 (args .opcode) (args .options) (args .«data» .now)
+unfolding judgement
+past-8 c = past-7 (c .before .before) ∙ simp (← c .before .lacks-length .ensures, c .if2 .left)
+
+past-9 : (c : tie.Else3)
+    → let args = c .before .before .before .before .before .before .before .before .args in
+    Past 3 (args .opcode) (args .options) (args .«data» .now)
+unfolding judgement
+past-9 c = past-8 (c .before .before) ∙ simp (← c .before .size-wrong .ensures, c .if3 .left)
+
+past-10 : (c : tie.Else4)
+    → let args = c .before .before .before .before .before .before .before .before .before .before .args in
+    Past 4 (args .opcode) (args .options) (args .«data» .now)
+unfolding judgement
+past-10 c = past-9 (c .before .before) ∙ simp (← c .before .value-fault .ensures, le-ltb _ _ (c .if4 .left))
+
+pub judge-spec : {M : Type 1} → statement M
+unfolding judgement
+judge-spec =
+    tie.close
+    (tie.spec
+    (λ c κs. tt)
+    (λ c κs. c .row-at .ensures)
+    (λ c. simp (← c .before .unknown .ensures, c .if1 .taken))
+    (λ c κs. c .before .before .row-at .ensures)
+    (λ c. sym (past-7 (c .before .before) ∙ simp (← c .before .lacks-length .ensures, c .if2 .taken)))
+    (λ c κs. c .before .before .before .before .row-at .ensures)
+    (λ c. sym (past-8 (c .before .before) ∙ simp (← c .before .size-wrong .ensures, c .if3 .taken)))
+    (λ c κs. c .before .before .before .before .before .before .row-at .ensures)
+    (λ c. sym (past-9 (c .before .before) ∙ simp (← c .before .value-fault .ensures, lt-ltb _ _ (c .if4 .taken))))
+    (λ c κs. tt)
+    (λ c. sym (past-10 (c .before .before) ∙ simp (← c .before .named-only .ensures, c .if5 .taken)))
+    (λ c. sym (past-10 (c .before .before) ∙ simp (← c .before .named-only .ensures, c .if5 .left))))

@@ -1,0 +1,203 @@
+// The judgement of a command, rule by rule: refusals 7 to 11 of rule 4.1.
+use super::Row;
+use super::fields::fault;
+use super::lists::first_large;
+use super::lists::rise;
+use super::opcodes::NOT_CARRIED;
+use super::opcodes::VARIABLE;
+use super::opcodes::row_at;
+use wire::Refusal;
+ghost use mathlib.Core.Path.{_≡_};
+ghost use Rattle.wire.specs.First.{first};
+ghost use Rattle.opcode.specs.Commands.{rowOf};
+ghost use Rattle.opcode.specs.Judgement.{judgement, sizeWrong, variableSizeWrong, valueFault, variableFault};
+ghost use Rattle.opcode.specs.Judgement.{«unknown», lacksLength, namedOnly};
+ghost use Rattle.opcode.specs.Judgement.{pointsSizeWrong, gainsSizeWrong, controlSizeWrong, smoothSizeWrong};
+ghost use Rattle.opcode.specs.Judgement.{gainsFault, listsFault, controlFault, smoothFault};
+
+// Judges a command by its opcode, options (header bits 3 to 7 in place) and data: the first of refusals 7 to 11, 0 for none.
+pub fn judge(opcode: usize, options: usize, data: &[u8]) -> Refusal
+    ensures { λ r. ⌜ r .number ≡ first (judgement opcode options (now («data» .entry))) ⌝ }
+{
+    let row = row_at(opcode);
+    if unknown(row, opcode) {
+        return Refusal { number: 7 };
+    }
+    if lacks_length(row, opcode, options) {
+        return Refusal { number: 8 };
+    }
+    if size_wrong(row, opcode, options, data) {
+        return Refusal { number: 9 };
+    }
+    let at = value_fault(row, opcode, options, data);
+    if at < data.len() {
+        return Refusal { number: 10 };
+    }
+    if named_only(opcode, options, data) {
+        return Refusal { number: 11 };
+    }
+    Refusal { number: 0 }
+}
+
+// 7: the opcode is not carried.
+fn unknown(row: Row, opcode: usize) -> bool
+    requires { ⌜ row ≡ rowOf opcode ⌝ }
+    ensures { λ r. ⌜ r ≡ «unknown» opcode ⌝ }
+{
+    row.mark == NOT_CARRIED
+}
+
+// 8: a write without a length field, of a command that varies in size.
+fn lacks_length(row: Row, opcode: usize, options: usize) -> bool
+    requires { ⌜ row ≡ rowOf opcode ⌝ }
+    ensures { λ r. ⌜ r ≡ lacksLength opcode options ⌝ }
+{
+    (options / 128 % 2 == 0) & (row.mark == VARIABLE) & (options / 16 % 2 == 0)
+}
+
+// 9: the size is wrong for the command.
+fn size_wrong(row: Row, opcode: usize, options: usize, data: &[u8]) -> bool
+    requires { ⌜ row ≡ rowOf opcode ⌝ }
+    ensures { λ r. ⌜ r ≡ sizeWrong opcode options (now («data» .entry)) ⌝ }
+{
+    if options / 128 % 2 == 1 {
+        return data.len() != row.read;
+    }
+    if row.mark == VARIABLE {
+        return variable_size_wrong(opcode, data);
+    }
+    data.len() != row.write
+}
+
+fn variable_size_wrong(opcode: usize, data: &[u8]) -> bool
+    ensures { λ r. ⌜ r ≡ variableSizeWrong opcode (now («data» .entry)) ⌝ }
+{
+    match opcode {
+        0x2B => gains_size_wrong(data),
+        0x34 => points_size_wrong(data),
+        0x35 => control_size_wrong(data),
+        _ => smooth_size_wrong(data),
+    }
+}
+
+// 34h: start, and one point or more.
+fn points_size_wrong(data: &[u8]) -> bool
+    ensures { λ r. ⌜ r ≡ pointsSizeWrong (now («data» .entry)) ⌝ }
+{
+    !((6 <= data.len()) & (data.len() % 4 == 2))
+}
+
+// 2Bh: compression, colour, count, start, and as many words as the count says.
+fn gains_size_wrong(data: &[u8]) -> bool
+    ensures { λ r. ⌜ r ≡ gainsSizeWrong (now («data» .entry)) ⌝ }
+{
+    !((6 <= data.len()) & (data.len() == 6 + 2 * wire::word(data, 2)))
+}
+
+// 35h: the mode, then two counts or two lists; with a mode above 1 no size is wrong.
+fn control_size_wrong(data: &[u8]) -> bool
+    ensures { λ r. ⌜ r ≡ controlSizeWrong (now («data» .entry)) ⌝ }
+{
+    if data.len() == 0 {
+        return true;
+    }
+    let mode = wire::byte(data, 0);
+    if mode == 0 {
+        return data.len() != 5;
+    }
+    if mode == 1 {
+        return data.len() != 189;
+    }
+    false
+}
+
+// 38h: columns, rows, and a point for each; with counts out of range no size is wrong.
+fn smooth_size_wrong(data: &[u8]) -> bool
+    ensures { λ r. ⌜ r ≡ smoothSizeWrong (now («data» .entry)) ⌝ }
+{
+    if data.len() < 2 {
+        return true;
+    }
+    if fault(0x38, false, 2, data) < 2 {
+        return false;
+    }
+    data.len() != 2 + 4 * (wire::byte(data, 0) * wire::byte(data, 1))
+}
+
+// 10: the place of the first value at fault, the data's length or more for none.
+fn value_fault(row: Row, opcode: usize, options: usize, data: &[u8]) -> usize
+    requires { ⌜ row ≡ rowOf opcode ⌝ }
+    ensures { λ r. ⌜ r ≡ valueFault opcode options (now («data» .entry)) ⌝ }
+{
+    if options / 128 % 2 == 1 {
+        return fault(opcode, true, row.read, data);
+    }
+    if row.mark == VARIABLE {
+        return variable_fault(opcode, data);
+    }
+    fault(opcode, false, row.write, data)
+}
+
+fn variable_fault(opcode: usize, data: &[u8]) -> usize
+    ensures { λ r. ⌜ r ≡ variableFault opcode (now («data» .entry)) ⌝ }
+{
+    match opcode {
+        0x2B => gains_fault(data),
+        0x34 => data.len(),
+        0x35 => control_fault(data),
+        _ => smooth_fault(data),
+    }
+}
+
+// 2Bh: its fields; then its words, unless they are compressed.
+fn gains_fault(data: &[u8]) -> usize
+    ensures { λ r. ⌜ r ≡ gainsFault (now («data» .entry)) ⌝ }
+{
+    let head = fault(0x2B, false, 6, data);
+    if head < 6 {
+        return head;
+    }
+    if wire::byte(data, 0) == 1 {
+        return data.len();
+    }
+    6 + 2 * first_large(data, 6, wire::word(data, 2))
+}
+
+// 35h: in mode 1 the lists, else the fields.
+fn control_fault(data: &[u8]) -> usize
+    ensures { λ r. ⌜ r ≡ controlFault (now («data» .entry)) ⌝ }
+{
+    if wire::byte(data, 0) == 1 {
+        return lists_fault(data);
+    }
+    fault(0x35, false, 5, data)
+}
+
+// 35h in mode 1: 62 and then 32 numbers, each list rising.
+fn lists_fault(data: &[u8]) -> usize
+    ensures { λ r. ⌜ r ≡ listsFault (now («data» .entry)) ⌝ }
+{
+    let columns = rise(data, 1, 62);
+    if columns < 62 {
+        return 1 + 2 * columns;
+    }
+    125 + 2 * rise(data, 125, 32)
+}
+
+// 38h: its two counts.
+fn smooth_fault(data: &[u8]) -> usize
+    ensures { λ r. ⌜ r ≡ smoothFault (now («data» .entry)) ⌝ }
+{
+    let head = fault(0x38, false, 2, data);
+    if head < 2 {
+        return head;
+    }
+    data.len()
+}
+
+// 11: merge mode of 39h and compression of 2Bh.
+fn named_only(opcode: usize, options: usize, data: &[u8]) -> bool
+    ensures { λ r. ⌜ r ≡ namedOnly opcode options (now («data» .entry)) ⌝ }
+{
+    (options / 128 % 2 == 0) & ((opcode == 0x39) | (opcode == 0x2B)) & (wire::byte(data, 0) == 1)
+}

@@ -1,0 +1,40 @@
+// Lists of 16-bit numbers in a command's data: the index of the first at fault.
+ghost use mathlib.Core.Path.{_≡_};
+ghost use Prim.Native.Nat.{_≤_};
+ghost use Rattle.opcode.specs.Fields.{wordsAt, «rise», firstLarge};
+
+// The index of the first of count numbers from a place on that is not above the one before it, count for none.
+pub(crate) fn rise(s: &[u8], at: usize, count: usize) -> usize
+    requires { ⌜ (at ≤ 65536) × (count ≤ 65536) ⌝ }
+    ensures { λ r. ⌜ (r ≡ «rise» (wordsAt (now (s .entry)) at count)) × (r ≤ count) ⌝ }
+{
+    if count == 0 {
+        return 0;
+    }
+    let mut last = wire::word(s, at);
+    let mut i = 1;
+    while i < count {
+        let w = wire::word(s, at + 2 * i);
+        if w <= last {
+            return i;
+        }
+        last = w;
+        i += 1;
+    }
+    count
+}
+
+// The index of the first of count gains from a place on that is above 8191, count for none.
+pub(crate) fn first_large(s: &[u8], at: usize, count: usize) -> usize
+    requires { ⌜ (at ≤ 65536) × (count ≤ 65536) ⌝ }
+    ensures { λ r. ⌜ (r ≡ firstLarge (wordsAt (now (s .entry)) at count)) × (r ≤ count) ⌝ }
+{
+    let mut i = 0;
+    while i < count {
+        if 8191 < wire::word(s, at + 2 * i) {
+            return i;
+        }
+        i += 1;
+    }
+    count
+}
