@@ -1,4 +1,4 @@
-// What both planners share: the numbers of planning, its answer, its refusals, and two small numbers of a packet's points.
+// What both planners share: the numbers of planning, its answer and its refusals, and how far a packet reaches.
 ghost use mathlib.Core.Path.{_≡_};
 ghost use Prim.Native.Nat.{min};
 ghost use Rattle.wire.specs.First.{first};
@@ -12,11 +12,13 @@ pub const MOST_POINTS: u32 = 1984;
 // How many points a packet takes at most behind its first.
 pub const MOST_MORE: usize = 125;
 
-// The plan's 16-bit numbers, the working room's 32-bit numbers, and the bytes that a batch needs at least.
+// The plan's 16-bit numbers.
 pub const PLAN_SIZE: usize = 3968;
 
+// The working room's 32-bit numbers.
 pub const ROOM_SIZE: usize = 1985;
 
+// The bytes that hold any batch.
 pub const BATCH_SIZE: usize = 8032;
 
 // A refusal's number or 0, how many packets the plan has, and how many bytes the batch.
