@@ -41,9 +41,7 @@ use denote.Triple.Clauses.{Clauses, closing, ensured, lasts}
 use denote.Triple.Walked.{says, needs, Stays, stay-none, stay-none-slice, stay-slice, walkOf, goes-none, goes-none-slice, goes-slice, Walks, ends-at, walked, walk-meets}
 use denote.Exit.{yes}
 use denote.Signature.{plain}
-use Rattle.upload.specs.Plan.{packetFor}
-use Rattle.upload.specs.Parts.{part}
-use Rattle.batch.specs.Writing.{Lies}
+use Rattle.batch.specs.Writing.{Lies, PacketFits, PacketPut}
 use Rattle.batch.specs.Internal.{headOf, headed, pointBytes}
 use Rattle.batch.specs.declared.Batch.{Batch}
 use Rattle.batch.proofs.Batch as T
@@ -95,10 +93,10 @@ module _ (w : Width) (points : Name) (wide : ℕ) (numbers : List ℕ → List �
 
   -- What is asked, and what is to be shown.
   abbrev pub Asked : ℕ → ℕ → ℕ → List ℕ → List ℕ → Type 0
-  Asked filled start count l map = (filled + (6 + 4 * count) ≤ length l) × (1 ≤ count) × (count ≤ 126) × (start < 65536) × Lies wide map (start + count)
+  Asked filled start count l map = PacketFits wide l filled map start count
 
   abbrev pub Packet : ℕ → ℕ → ℕ → List ℕ → List ℕ → ℕ → List ℕ → Type 0
-  Packet filled start count l map r last = (r ≡ filled + (6 + 4 * count)) × (last ≡ sets l filled (packetFor (numbers map) (part start count)))
+  Packet filled start count l map r last = PacketPut l filled (numbers map) start count r last
 
   abbrev pub clauses : {M : Type 1} (𝓤 : URA M) → Clauses 𝓤 (ended w)
   clauses 𝓤 κs a =
@@ -261,7 +259,7 @@ module _ (w : Width) (points : Name) (wide : ℕ) (numbers : List ℕ → List �
           split ! $ move ! (1 ∷ []) $ use1 W (raw (fact 𝓤 (r₁ ≡ h₁))) (began 𝓤 H A mem run κ h₀ start count r₁) $ heard ! (r₁ ≡ h₁) (λ e₁.
           split ! $ rewrite ! 1 (λ (h : Batch). ‵ (T.the-row α .own h (v₁ ∷ []))) e₁ refl $
           move ! (1 ∷ []) $ peeks ! (T.the-row α) (Is (T.the-row α)) (shows 𝓤 H A (T.the-row α)) h₁ (v₁ ∷ []) (λ is₁. land ! (from ! (stop !)) (init ! 9 refl (typed h₁ v₁ is₁)) $
-          -- `points` or `bytes`
+          -- `points`
           move ! (1 ∷ 0 ∷ 2 ∷ []) $ use3 W (raw (Points 𝓤 H A .pre (to-points v₁)) ⊛ ‵ Map) (goes-points v₁) $ split ! $
           calls-at ! fm (Points 𝓤 H A) known-points (to-points v₁) (and-then ! (load ! (from ! (stop !)) (look ! 8 refl)) (and-then ! (load ! (from ! (stop !)) (look ! 16 refl)) (and-then ! (load ! (from ! (stop !)) (look ! 14 refl)) (and-then ! (load ! (from ! (stop !)) (look ! 12 refl)) (no-more !))))) (λ v₂.
           use1 W (later (some (λ (r : Batch). ((‵ (flft κ q) ⊛ ‵ (flft κ′ q′) ⊛ ‵ ftrue) ⊛ ‵ (T.the-row α .own r (v₂ ∷ []))) ⊛ raw (ensured 𝓤 H A (behind.ended w) (behind.clauses w points wide numbers 𝓤) κs (h₁, (map, (start, (count, tt)))) tt r)))) (id⊢ 𝓤 _) $ await ! tt $ pick ! (λ r₂.

@@ -37,9 +37,9 @@ fn main() {
 
 // The plan for a map of four points: its packets, its bytes and the batch.
 fn present_plan(held: &[u16], wanted: &[u16]) {
-    let mut plan = [0u16; 3968];
-    let mut room = [0u32; 1985];
-    let mut batch = [0u8; 8032];
+    let mut plan = [0u16; planning::PLAN_SIZE];
+    let mut room = [0u32; planning::ROOM_SIZE];
+    let mut batch = [0u8; planning::BATCH_SIZE];
     let a = planner16::plan(4, held, wanted, &mut plan, &mut room, &mut batch);
     print_number(b"plan: status ", a.status as u64);
     print_number(b", packets ", a.packets as u64);
@@ -53,9 +53,9 @@ fn present_plan(held: &[u16], wanted: &[u16]) {
 // points and the lengths of held, wanted, plan, room and batch.
 fn present_refusals(script: &[u8]) {
     let map = [0u16; 9];
-    let mut plan = [7u16; 3969];
-    let mut room = [7u32; 1986];
-    let mut batch = [7u8; 8032];
+    let mut plan = [7u16; planning::PLAN_SIZE + 1];
+    let mut room = [7u32; planning::ROOM_SIZE + 1];
+    let mut batch = [7u8; planning::BATCH_SIZE];
     let mut at = 0;
     while at < script.len() {
         plan_part(script, at, &map, &mut plan, &mut room, &mut batch);

@@ -2,7 +2,7 @@
 use Prim.Native.Nat.{ℕ, _+_, _-_, _*_}
 use mathlib.Core.List.{List}
 use lib.ListN.{length, take, drop}
-use Rattle.wire.specs.Numbers.{byteAt}
+use Rattle.wire.specs.Numbers.{byteAt, wordAt}
 use Rattle.opcode.specs.Options.{twoByte, hasLength, hasSum, optionsIn}
 
 -- Rule 2.2: the header is the first byte.
@@ -35,3 +35,8 @@ dataSize p = length p - fields (headerOf p)
 
 abbrev pub dataOf : List ℕ → List ℕ
 dataOf p = take (dataSize p) (drop (place (headerOf p)) p)
+
+-- Rules 2.1 and 2.4: how many bytes a packet has by its own words: the fields that its header announces and the number in the
+-- length field, 0 where the header has none. Packets back to back are told apart by it.
+abbrev pub announced : List ℕ → ℕ
+announced p = fields (headerOf p) + hasLength (headerOf p) * wordAt p (lengthPlace (headerOf p))

@@ -12,7 +12,7 @@ ghost use Rattle.wire.specs.Checksum.{«checksum»};
 ghost use Rattle.wire.specs.Buffers.{Overwrites};
 ghost use Rattle.opcode.specs.Options.{twoByte, hasLength};
 ghost use Rattle.packet.specs.Reading.{answer, refusedBy, checksumDiffers};
-ghost use Rattle.packet.specs.Frame.{«fields»};
+ghost use Rattle.packet.specs.Frame.{«fields», «announced»};
 ghost use Rattle.packet.specs.Making.{present, packetOf};
 ghost use Rattle.packet.specs.Promises.{PacketRead, PacketMade};
 ghost use Rattle.packet.specs.Internal.{framed, frameAnswer};
@@ -171,20 +171,38 @@ fn broken(number: u8) -> Frame
     Frame::Broken(Refusal { number })
 }
 
+// The bytes that a header, or options in place, announce besides data.
+fn fields(header: usize) -> usize
+    ensures { λ r. ⌜ r ≡ «fields» header ⌝ }
+{
+    2 + header / 8 % 2 + 2 * (header / 16 % 2) + header / 32 % 2
+}
+
+// How many bytes a packet at the start of these has by its header and its length field: any bytes, and there may be fewer.
+pub fn announced(bytes: &[u8]) -> usize
+    ensures { λ r. ⌜ (r ≡ «announced» (now (bytes .entry))) × (2 ≤ r) × (r ≤ 65541) ⌝ }
+{
+    let header = wire::byte(bytes, 0);
+    if header / 16 % 2 == 0 {
+        return fields(header);
+    }
+    fields(header) + wire::word(bytes, 2 + header / 8 % 2)
+}
+
 // Steps through header, opcode and length, and tests the frame: refusals 2 to 6.
 fn frame_of(packet: &[u8]) -> Frame
     ensures { λ r. ⌜ frameAnswer r ≡ framed (now (packet .entry)) ⌝ }
 {
     let start = Cursor::new().header(packet);
     let header = start.value;
-    let fields = 2 + header / 8 % 2 + 2 * (header / 16 % 2) + header / 32 % 2;
-    if packet.len() < fields {
+    let announced = fields(header);
+    if packet.len() < announced {
         return broken(2);
     }
     if 512 < packet.len() {
         return broken(3);
     }
-    let size = packet.len() - fields;
+    let size = packet.len() - announced;
     let opcode = start.next.opcode(packet, header);
     let length = opcode.next.length(packet, header, size);
     if length.value != size {
@@ -230,8 +248,7 @@ pub fn make(opcode: u16, options: u8, data: &[u8], buffer: &mut [u8]) -> Made
         return Made { status: 1, size: 0 };
     }
     let o = options as usize / 8 * 8;
-    let fields = 2 + o / 8 % 2 + 2 * (o / 16 % 2) + o / 32 % 2;
-    if 512 - fields < data.len() {
+    if 512 - fields(o) < data.len() {
         return Made { status: 3, size: 0 };
     }
     let why = opcode::judge(opcode as usize, o, data);

@@ -9,9 +9,8 @@ use Rattle.wire.specs.Numbers.{wordBytes}
 use Rattle.wire.specs.Tables.{pairs, words, bytes, longs}
 use Rattle.wire.proofs.Tables.{length-pairs, length-halves, pairs-append, pairs-take, pairs-set, pairs-halves}
 use Rattle.tables.proofs.Bytes.{Below, words-below}
-use Rattle.upload.specs.Cost.{differs}
 use Rattle.upload.specs.Judge.{MapOf}
-use Rattle.upload.proofs.Differs.{differs-long}
+use Rattle.upload.specs.Planning.{MapsLent}
 
 pub length-longs : (s : List ℕ) → length (longs s) ≡ length s / 4
 length-longs s = rw (length-pairs, length-pairs) (omega arith)
@@ -73,5 +72,10 @@ module _ (s : List ℕ) (n : ℕ) {q : List ℕ} (l : length s ≡ 7940) (h : n 
 pub map-words : (n : ℕ) (w : List ℕ) → length w ≡ 4 * n → Below 256 w → MapOf n (words w)
 map-words n w e small = record { long = rw length-pairs (omega arith); words = words-below w small }
 
-pub words-differ : (n : ℕ) (h w : List ℕ) → length h ≡ 4 * n → length w ≡ 4 * n → length (differs (words h) (words w)) ≡ n
-words-differ n h w e f = differs-long n (words h) (words w) (rw length-pairs (omega arith)) (rw length-pairs (omega arith))
+pub lent-words : {n : ℕ} {held wanted : List ℕ} → MapsLent 4 n held wanted → MapsLent 2 n (words held) (words wanted)
+lent-words m =
+    record {
+      few = m .few;
+      held-long = rw length-pairs (omega (arith, m .held-long));
+      wanted-long = rw length-pairs (omega (arith, m .wanted-long));
+    }

@@ -2,17 +2,21 @@
 // in place, and its promise speaks of the numbers that the bytes hold.
 ghost use mathlib.Core.Path.{_≡_};
 ghost use mathlib.Core.Bool.{false};
-ghost use mathlib.Core.List.{[], _∷_, _++_};
-ghost use Prim.Native.Nat.{ℕ, _+_, _-_, _*_, _≤_, _<_};
-ghost use lib.ListN.{length, drop, getD, set, replicate};
+ghost use mathlib.Core.List.{[], _∷_};
+ghost use Prim.Native.Nat.{_+_, _*_, _≤_, _<_};
+ghost use lib.ListN.{length, drop, getD, set};
 ghost use lib.Seq.{sets};
-ghost use Rattle.wire.specs.Buffers.{over};
 ghost use Rattle.wire.specs.Tables.{words, longs};
+ghost use Rattle.upload.specs.Sizes.{mostMore, planSize, roomSize, batchSize};
 ghost use Rattle.upload.specs.Cost.{differs, best, least, rooms, more};
-ghost use Rattle.upload.specs.Plan.{planOf, planNumbers, batchOf};
-ghost use Rattle.upload.specs.Planning.{sheets, planOut, roomOf, PlannedBytes};
-use planner16::Answer;
-use planner16::Lengths;
+ghost use Rattle.upload.specs.Planning.{sheets, planOut, roomOf, MapsLent, Written, PlannedBytes};
+ghost use Rattle.upload.specs.Internal.{Filling, SmallFrom, Countable};
+use planning::Answer;
+use planning::Lengths;
+
+const PLAN_BYTES: usize = 2 * planning::PLAN_SIZE;
+
+const ROOM_BYTES: usize = 4 * planning::ROOM_SIZE;
 
 // The number of two bytes, low byte first.
 fn number(low: u8, high: u8) -> u32
@@ -65,7 +69,7 @@ fn differs_at(held: &[u8], wanted: &[u8], i: usize) -> bool
 
 // The least bytes from a place on, where the open packet may still take k points: j points more cost w bytes more.
 fn low(room: &[u8], from: usize, k: usize) -> u32
-    requires { ⌜ (k ≤ 125) × (4 * (from + k) + 3 < length (now room)) × ((j : ℕ) → getD (drop from (longs (now room))) j 0 < 65536) ⌝ }
+    requires { ⌜ (k ≤ mostMore) × (4 * (from + k) + 3 < length (now room)) × SmallFrom from (longs (now room)) ⌝ }
     ensures { λ r. ⌜ r ≡ best k (drop from (longs (now (room .entry)))) ⌝ }
 {
     let mut m = long_at(room, from);
@@ -74,7 +78,7 @@ fn low(room: &[u8], from: usize, k: usize) -> u32
     while j < k {
         j += 1;
         w += 4;
-        m = planner16::lesser(m, long_at(room, from + j) + w);
+        m = planning::lesser(m, long_at(room, from + j) + w);
     }
     m
 }
@@ -82,13 +86,8 @@ fn low(room: &[u8], from: usize, k: usize) -> u32
 // Rule 6.5: the fewest bytes for point i and those behind it, where the room behind i is filled.
 fn least_at(held: &[u8], wanted: &[u8], room: &[u8], n: usize, i: usize) -> u32
     requires { ⌜
-        (i < n)
-        × (n ≤ 1984)
-        × (length (now held) ≡ 4 * n)
-        × (length (now wanted) ≡ 4 * n)
-        × (length (now room) ≡ 7940)
-        × (drop (i + 1) (longs (now room))
-        ≡ rooms (drop (i + 1) (differs (words (now held)) (words (now wanted)))) ++ replicate (1984 - n) 0)
+        MapsLent 4 n (now held) (now wanted)
+        × Filling n (differs (words (now held)) (words (now wanted))) (longs (now room)) (i + 1)
         ⌝ }
     ensures { λ r.
         ⌜
@@ -99,20 +98,18 @@ fn least_at(held: &[u8], wanted: &[u8], room: &[u8], n: usize, i: usize) -> u32
 {
     let next = i + 1;
     if differs_at(held, wanted, i) {
-        return 10 + low(room, next, planner16::span(n - next));
+        return 10 + low(room, next, planning::span(n - next));
     }
     long_at(room, next)
 }
 
-// The working room, from the back.
-fn fill_room(held: &[u8], wanted: &[u8], room: &mut [u8], n: usize)
-    requires { ⌜
-        (n ≤ 1984)
-        × (length (now held) ≡ 4 * n)
-        × (length (now wanted) ≡ 4 * n)
-        × (length (now room) ≡ 7940)
+// Fills the working room, from the back.
+pub fn measure(held: &[u8], wanted: &[u8], room: &mut [u8], n: usize)
+    requires { ⌜ MapsLent 4 n (now held) (now wanted) × (length (now room) ≡ 4 * roomSize) ⌝ }
+    ensures { λ _.
+        ⌜
+        longs (now (room .exit)) ≡ roomOf n (words (now (held .entry))) (words (now (wanted .entry)))
         ⌝ }
-    ensures { λ _. ⌜ longs (now (room .exit)) ≡ roomOf n (words (now (held .entry))) (words (now (wanted .entry))) ⌝ }
 {
     tables::fill_bytes(&mut room[4 * n..], 0);
     let mut i = n;
@@ -125,12 +122,7 @@ fn fill_room(held: &[u8], wanted: &[u8], room: &mut [u8], n: usize)
 
 // How many points the packet takes that begins at i, at most so many behind it: the smallest count that costs least.
 fn count_at(room: &[u8], i: usize, most: usize) -> usize
-    requires { ⌜
-        (most ≤ 125)
-        × (i + 1 + most < length (longs (now room)))
-        × (getD (longs (now room)) i 0 ≡ 10 + best most (drop (i + 1) (longs (now room))))
-        × ((j : ℕ) → getD (drop (i + 1) (longs (now room))) j 0 < 65536)
-        ⌝ }
+    requires { ⌜ Countable (longs (now room)) i most ⌝ }
     ensures { λ r. ⌜ r ≡ 1 + more most (drop (i + 1) (longs (now (room .entry)))) ⌝ }
 {
     let next = i + 1;
@@ -155,8 +147,8 @@ fn put_part(plan: &mut [u8], p: usize, start: usize, count: usize)
     wire::put_word(plan, 4 * p + 2, count);
 }
 
-// The plan and its batch, from the filled room.
-fn write_plan(
+// Writes the plan and its batch, from the filled room.
+pub fn write(
     held: &[u8],
     wanted: &[u8],
     plan: &mut [u8],
@@ -165,21 +157,16 @@ fn write_plan(
     n: usize,
 ) -> Answer
     requires { ⌜
-        (n ≤ 1984)
-        × (length (now held) ≡ 4 * n)
-        × (length (now wanted) ≡ 4 * n)
-        × (length (now plan) ≡ 7936)
-        × (8032 ≤ length (now batch))
+        MapsLent 4 n (now held) (now wanted)
+        × (length (now plan) ≡ 2 * planSize)
+        × (batchSize ≤ length (now batch))
         × (longs (now room) ≡ roomOf n (words (now held)) (words (now wanted)))
         ⌝ }
     ensures { λ r.
         ⌜
         (r .status ≡ 0)
-        × (r .packets ≡ length (planOf (words (now (held .entry))) (words (now (wanted .entry)))))
-        × (r .bytes ≡ length (batchOf (words (now (held .entry))) (words (now (wanted .entry)))))
-        × (words (now (plan .exit))
-        ≡ over (planNumbers (planOf (words (now (held .entry))) (words (now (wanted .entry))))) (words (now (plan .entry))))
-        × (now (batch .exit) ≡ over (batchOf (words (now (held .entry))) (words (now (wanted .entry)))) (now (batch .entry)))
+        × Written (words (now (held .entry))) (words (now (wanted .entry))) (words (now (plan .entry)))
+        (now (batch .entry)) (words (now (plan .exit))) (now (batch .exit)) (r .packets) (r .bytes)
         ⌝ }
 {
     let mut packets = 0;
@@ -187,10 +174,10 @@ fn write_plan(
     let mut i = 0;
     while i < n {
         if differs_at(held, wanted, i) {
-            let most = planner16::span(n - (i + 1));
+            let most = planning::span(n - (i + 1));
             let count = count_at(room, i, most);
             put_part(plan, packets, i, count);
-            bytes = batch::put_packet_bytes(batch, bytes, wanted, i, count);
+            bytes = batch::bytes::put_packet(batch, bytes, wanted, i, count);
             packets += 1;
             i += count;
         } else {
@@ -205,7 +192,7 @@ fn write_plan(
 }
 
 // Plans the upload of wanted over held: the plan, the working room and the batch of packets.
-pub fn plan_bytes(
+pub fn plan(
     points: u32,
     held: &[u8],
     wanted: &[u8],
@@ -230,10 +217,10 @@ pub fn plan_bytes(
     let asked = Lengths {
         held: 4 * n,
         wanted: 4 * n,
-        plan: 7936,
-        room: 7940,
+        plan: PLAN_BYTES,
+        room: ROOM_BYTES,
     };
-    let status = planner16::refusal(points, lent, asked, batch.len());
+    let status = planning::refusal(points, lent, asked, batch.len());
     if status != 0 {
         return Answer {
             status,
@@ -241,6 +228,6 @@ pub fn plan_bytes(
             bytes: 0,
         };
     }
-    fill_room(held, wanted, room, n);
-    write_plan(held, wanted, plan, room, batch, n)
+    measure(held, wanted, room, n);
+    write(held, wanted, plan, room, batch, n)
 }

@@ -10,6 +10,7 @@ use lib.Seq.{take-nil, drop-nil, take-length, drop-drop, paste}
 use lib.Dec.{eqb}
 use Rattle.wire.proofs.Tests.{told}
 use Rattle.upload.specs.Cost.{differs}
+use Rattle.upload.specs.Planning.{MapsLent}
 
 double : (n : ℕ) → 2 * suc n ≡ suc (suc (2 * n))
 double n = omega arith
@@ -30,6 +31,9 @@ length-differs (x ∷ y ∷ h) (a ∷ b ∷ w) = omega (arith, length-differs h 
 
 pub differs-long : (n : ℕ) (m w : List ℕ) → length m ≡ 2 * n → length w ≡ 2 * n → length (differs m w) ≡ n
 differs-long n m w e f = omega (arith, length-differs m w)
+
+pub lent-long : {n : ℕ} {held wanted : List ℕ} → MapsLent 2 n held wanted → length (differs held wanted) ≡ n
+lent-long {n} {held} {wanted} m = differs-long n held wanted (m .held-long) (m .wanted-long)
 
 pub differs-take : (n : ℕ) (h w : List ℕ) → differs (take (2 * n) h) (take (2 * n) w) ≡ take n (differs h w)
 unfolding differs

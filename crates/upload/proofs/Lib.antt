@@ -10,6 +10,7 @@ pub mod Reading
 pub mod Lists
 pub mod Choice
 pub mod Bytes
+pub mod Announced
 pub mod Walk
 pub mod Outcome
 pub mod Site

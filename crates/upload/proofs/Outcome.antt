@@ -19,11 +19,11 @@ use Rattle.wire.proofs.Tables.{length-pairs, length-halves, pairs-halves, halve
 use Rattle.wire.proofs.Tests.{told, or-left}
 use Rattle.upload.specs.Plan.{planOf, planNumbers, packetFor, packetsOf, joined, batchOf}
 use Rattle.upload.specs.Judge.{MapOf}
-use Rattle.upload.specs.Planning.{Sheets, sheets, sheetsIn, sheetBytes, bytePlanOut, plannedBy, pointsWrong, lengthsWrong, refusalsWith, planRefusals, bytePlanRefusals, PlanOut, planOut, PointsRight, ListsRight, NumbersRight, BytesRight, PlanRefusals, roomOf, planned, plannedBytes, Fewest, PlanChosen, Planned, PlannedBytes}
+use Rattle.upload.specs.Planning.{Sheets, sheets, sheetsIn, sheetBytes, bytePlanOut, plannedBy, pointsWrong, lengths, lengthsWrong, refusalsWith, planRefusals, bytePlanRefusals, PlanOut, planOut, PointsRight, ListsRight, NumbersRight, BytesRight, PlanRefusals, roomOf, planned, plannedBytes, MapsLent, Written, Fewest, PlanChosen, Planned, PlannedBytes}
 use Rattle.upload.proofs.Lists.{demand3, batch-cost, batch-bound, plan-equal}
 use Rattle.upload.proofs.Choice.{plan-chosen, chosen-only}
 use Rattle.upload.proofs.RoomMeans.{room-means}
-use Rattle.upload.proofs.Walk.{length-numbers, Walked}
+use Rattle.upload.proofs.Walk.{length-numbers}
 
 -- What is taken has no refusal.
 not-refused : {n : ℕ} {Right : Type 0} {s : Sheets} {o : PlanOut} → PointsRight n × Right → o .status ≡ 0 → PlanRefusals n Right s o
@@ -50,7 +50,12 @@ module _ (each plans places n : ℕ) (held wanted : List ℕ) (s : Sheets) where
   abbrev Right : Type 0
   Right = ListsRight each plans places n held wanted s
 
-  lists-tested : (lengthsWrong each plans places n held wanted s ≡ false) ↔ Right
+  abbrev wrong : Bool
+  wrong =
+      lengthsWrong (lengths (length held) (length wanted) (length (s .plan)) (length (s .room))) (lengths (each * n) (each * n) plans places)
+      (length (s .batch))
+
+  lists-tested : (wrong ≡ false) ↔ Right
   lists-tested = (
     λ e.
         let enough : 8032 ≤ length (s .batch) = search (told, e) in
@@ -74,9 +79,9 @@ module _ (each plans places n : ℕ) (held wanted : List ℕ) (s : Sheets) where
 
   -- The number that the tests give, and nothing changed.
   judged : PlanRefusals n Right s (planOut (first asked) 0 0 s)
-  judged = go (pointsWrong n) (lengthsWrong each plans places n held wanted s) refl refl
+  judged = go (pointsWrong n) wrong refl refl
     where
-      go : (a b : Bool) → pointsWrong n ≡ a → lengthsWrong each plans places n held wanted s ≡ b → PlanRefusals n Right s (planOut (first asked) 0 0 s)
+      go : (a b : Bool) → pointsWrong n ≡ a → wrong ≡ b → PlanRefusals n Right s (planOut (first asked) 0 0 s)
       go true b e f =
           let no : PointsRight n → ⊥ = λ r. let z : _≡_ {A = ℕ} 0 1 = cc (points-tested n .1 r) in omega arith in
           rw e (record { exactly = (λ z. absurd (omega arith), λ r. absurd (no (r .0))); wrong-points = λ w. refl; wrong-length = λ r w. absurd (no r) })
@@ -96,6 +101,11 @@ module _ (each plans places n : ℕ) (held wanted : List ℕ) (s : Sheets) where
 
   pub taken : PointsRight n × Right → first asked ≡ 0
   taken = judged .exactly .1
+
+-- Right lists have maps of n points.
+pub maps-lent : {each plans places n : ℕ} {held wanted : List ℕ} {s : Sheets} → PointsRight n × ListsRight each plans places n held wanted s
+    → MapsLent each n held wanted
+maps-lent f = record { few = f .0 .few; held-long = f .1 .held-long; wanted-long = f .1 .wanted-long }
 
 -- The batch is no longer than the buffer.
 pub batch-short : (n : ℕ) (held wanted : List ℕ) → n ≤ 1984 → MapOf n held → MapOf n wanted → length (batchOf held wanted) ≤ 8032
@@ -181,7 +191,7 @@ refused-bytes n held wanted s {number} e h =
 
 -- Planned.
 pub done : (n : ℕ) (held wanted : List ℕ) (s : Sheets) {plan room batch : List ℕ} {packets size : ℕ} → first (planRefusals n held wanted s) ≡ 0
-    → MapOf n held → MapOf n wanted → room ≡ roomOf n held wanted → Walked held wanted (s .plan) (s .batch) plan batch packets size
+    → MapOf n held → MapOf n wanted → room ≡ roomOf n held wanted → Written held wanted (s .plan) (s .batch) plan batch packets size
     → Planned n held wanted s (planOut 0 packets size (sheets plan room batch))
 unfolding planned
 done n held wanted s e h w r t =

@@ -12,6 +12,7 @@ use lib.Seq.{take-all, getD-drop, drop-cons, drop-append-le, drop-at, drop-set-l
 use lib.Dec.{leb}
 use Rattle.wire.proofs.Laws.{Copying, turn, done}
 use Rattle.upload.specs.Cost.{best, least, rooms, more}
+use Rattle.upload.specs.Internal.{Filling}
 use Rattle.upload.proofs.Best.{best-falls, best-bound}
 use Rattle.upload.proofs.Least.{length-rooms}
 
@@ -163,12 +164,7 @@ clear-done {l₀} {from} {n} e h t =
     done h t
     ∙ rw (take-all n (replicate n none) (omega (arith, length-replicate n none)), drop-of-length-le l₀ {i = from + n} (omega arith), append-nil)
 
--- The loop that fills the room of n points from the back: from i on it is as it shall be.
-pub record Filling (n : ℕ) (ds : List Bool) (room : List ℕ) (i : ℕ) : Type 0 where
-  pub within : i ≤ n
-  pub long : length room ≡ 1985
-  pub filled : drop i room ≡ rooms (drop i ds) ++ replicate (1984 - n) 0
-
+-- The loop that fills the room of n points from the back.
 pub fill-start : {n : ℕ} {ds : List Bool} (room₀ : List ℕ) {room : List ℕ} → n ≤ 1984 → length ds ≡ n → length room₀ ≡ 1985 → length room ≡ length room₀
     → room ≡ take n room₀ ++ replicate (length room₀ - n) 0 → Filling n ds room n
 unfolding rooms
@@ -181,9 +177,8 @@ fill-start {n} {ds} room₀ {room} h d l k e =
       filled = rw (e, drop-at (take n room₀) (replicate (length room₀ - n) 0) n long, left, drop-of-length-le ds {i = n} (omega arith));
     }
 
-pub fill-behind : {n : ℕ} {ds : List Bool} {room : List ℕ} (i : ℕ) {j : ℕ} → j ≡ i + 1 → Filling n ds room j
-    → drop (i + 1) room ≡ rooms (drop (i + 1) ds) ++ replicate (1984 - n) 0
-fill-behind i e f = rw e at (f .filled)
+pub fill-at : {n : ℕ} {ds : List Bool} {room : List ℕ} {i j : ℕ} → i ≡ j → Filling n ds room j → Filling n ds room i
+fill-at e f = record { within = omega (arith, f .within); long = f .long; filled = rw e (f .filled) }
 
 pub fill-turn : {n : ℕ} {ds : List Bool} {room : List ℕ} {i j v : ℕ} → n ≤ 1984 → length ds ≡ n → j ≡ i + 1
     → v ≡ least (getD ds i false) (rooms (drop (i + 1) ds)) → Filling n ds room j → Filling n ds (set room i v) i
@@ -191,7 +186,7 @@ unfolding rooms
 fill-turn {n} {ds} {room} {i} {j} {v} h d l e f =
     let long : length (set room i v) ≡ 1985 = length-set room i v ∙ f .long in
     let inside : i < n = omega (arith, f .within) in
-    let behind : drop (suc i) room ≡ rooms (drop (suc i) ds) ++ replicate (1984 - n) 0 = rw add-one at (fill-behind i l f) in
+    let behind : drop (suc i) room ≡ rooms (drop (suc i) ds) ++ replicate (1984 - n) 0 = rw (l, add-one) at (f .filled) in
     let value : v ≡ least (getD ds i false) (rooms (drop (suc i) ds)) = rw add-one at e in
     record {
       within = omega arith;
@@ -205,21 +200,21 @@ pub fill-done : {n : ℕ} {ds : List Bool} {room : List ℕ} {i : ℕ} → i ≤
 fill-done {n} {ds} {room} {i} h f = let e : i ≡ 0 = omega arith in rw e at (f .filled)
 
 -- At a point i of a map of n points, with the room filled behind it.
-module _ (n : ℕ) (few : n ≤ 1984) (ds : List Bool) (all : length ds ≡ n) (i : ℕ) (inside : i < n) (room : List ℕ)
-    (filled : drop (i + 1) room ≡ rooms (drop (i + 1) ds) ++ replicate (1984 - n) 0) where
+module _ {n : ℕ} {ds : List Bool} {room : List ℕ} (i : ℕ) (few : n ≤ 1984) (all : length ds ≡ n) (f : Filling n ds room (i + 1)) where
   left : length (drop (i + 1) ds) ≡ n - (i + 1)
-  left = rw length-drop (omega arith)
+  left = rw length-drop (omega (arith, f .within))
+
+  some : 0 < length (drop (i + 1) room)
+  some = rw length-drop (omega (arith, f .within, f .long))
 
   pub behind-small : (j : ℕ) → getD (drop (i + 1) room) j 0 < 65536
-  behind-small j = rw filled (omega (arith, left, rooms-small (drop (i + 1) ds) (1984 - n) j))
+  behind-small j = rw (f .filled) (omega (arith, left, rooms-small (drop (i + 1) ds) (1984 - n) j))
 
   behind-best : (k : ℕ) → best k (drop (i + 1) room) ≡ best k (rooms (drop (i + 1) ds))
-  behind-best k = rw (filled, best-behind k (drop (i + 1) ds) (replicate (1984 - n) 0))
+  behind-best k = rw (f .filled, best-behind k (drop (i + 1) ds) (replicate (1984 - n) 0))
 
-  pub low-small : i + 1 < length room → (k : ℕ) → best k (drop (i + 1) room) < 65536
-  low-small h k =
-      let some : 0 < length (drop (i + 1) room) = rw length-drop (omega arith) in
-      omega (arith, best-first (drop (i + 1) room) 0 some k, behind-small 0)
+  pub low-small : (k : ℕ) → best k (drop (i + 1) room) < 65536
+  low-small k = omega (arith, best-first (drop (i + 1) room) 0 some k, behind-small 0)
 
   -- The room's number at i: a packet's least over the counts that are left, or the number behind. And the packet's count.
   module _ (k : ℕ) (counts : k ≡ min 125 (n - (i + 1))) where
@@ -230,21 +225,19 @@ module _ (n : ℕ) (few : n ≤ 1984) (ds : List Bool) (all : length ds ≡ n) (
     least-open d = rw (d, behind-best k, taken, best-left 125 (drop (i + 1) ds))
 
     pub behind-more : more k (drop (i + 1) room) ≡ more 125 (rooms (drop (i + 1) ds))
-    behind-more = rw (filled, more-behind k (drop (i + 1) ds) (replicate (1984 - n) 0), taken, more-left 125 (drop (i + 1) ds))
+    behind-more = rw (f .filled, more-behind k (drop (i + 1) ds) (replicate (1984 - n) 0), taken, more-left 125 (drop (i + 1) ds))
 
-  pub least-same : i + 1 < length room → getD ds i false ≡ false
-      → getD (drop (i + 1) room) 0 0 ≡ least (getD ds i false) (rooms (drop (i + 1) ds))
-  least-same h d =
-      let some : 0 < length (drop (i + 1) room) = rw length-drop (omega arith) in
-      rw d (sym (best-zero (drop (i + 1) room) 0 some) ∙ behind-best 0)
+  pub least-same : getD ds i false ≡ false → getD (drop (i + 1) room) 0 0 ≡ least (getD ds i false) (rooms (drop (i + 1) ds))
+  least-same d = rw d (sym (best-zero (drop (i + 1) room) 0 some) ∙ behind-best 0)
 
 -- The whole room of n points.
 module _ (n : ℕ) (few : n ≤ 1984) (ds : List Bool) (all : length ds ≡ n) (room : List ℕ) (whole : room ≡ rooms ds ++ replicate (1984 - n) 0) where
   pub whole-long : length room ≡ 1985
   whole-long = rw (whole, length-append, length-rooms, length-replicate) (omega arith)
 
-  pub whole-behind : (i : ℕ) → i < n → drop (i + 1) room ≡ rooms (drop (i + 1) ds) ++ replicate (1984 - n) 0
-  whole-behind i h = rw whole (rooms-behind (i + 1) ds (replicate (1984 - n) 0) (omega arith))
+  pub whole-behind : (i : ℕ) → i < n → Filling n ds room (i + 1)
+  whole-behind i h =
+      record { within = omega arith; long = whole-long; filled = rw whole (rooms-behind (i + 1) ds (replicate (1984 - n) 0) (omega arith)) }
 
   pub whole-here : (i : ℕ) → i < n → getD room i 0 ≡ least (getD ds i false) (rooms (drop (i + 1) ds))
   unfolding best rooms

@@ -3,19 +3,20 @@
 use Prim.Native.Nat.{ℕ, _+_, _-_, _*_, _≤_, _<_, min}
 use mathlib.Core.Path.{_≡_, sym, ap, subst, _∙_}
 use mathlib.Core.Bool.{true, false}
-use mathlib.Core.List.{List, [], _∷_, _++_}
+use mathlib.Core.List.{List, [], _∷_}
 use native.Mathlib.Omega.{arith}
-use lib.ListN.{length, drop, getD, replicate}
+use lib.ListN.{length, drop, getD}
 use lib.Seq.{sets, length-sets}
-use Rattle.upload.specs.Cost.{differs, best, rooms, more}
+use Rattle.upload.specs.Cost.{differs, rooms, more}
 use Rattle.upload.specs.Plan.{planFrom, planOf, cost, packetFor}
 use Rattle.upload.specs.Judge.{MapOf}
 use Rattle.upload.specs.Parts.{part}
-use Rattle.upload.specs.Planning.{roomOf}
+use Rattle.upload.specs.Planning.{roomOf, Written}
+use Rattle.upload.specs.Internal.{Filling, Countable}
 use Rattle.upload.proofs.Differs.{differs-long}
 use Rattle.upload.proofs.Lists.{plan-bound}
 use Rattle.upload.proofs.Rooms.{whole-long, whole-behind, whole-here, behind-small, behind-more, least-open}
-use Rattle.upload.proofs.Walk.{Walking, walk-skip, walk-fits, walk-room, walk-part, Walked, walk-done}
+use Rattle.upload.proofs.Walk.{Walking, walk-skip, walk-fits, walk-room, walk-part, walk-done}
 use Rattle.upload.proofs.Outcome.{batch-short}
 
 pub record Site (n : ℕ) (held wanted plan room batch : List ℕ) : Type 0 where
@@ -39,22 +40,21 @@ module _ {n : ℕ} {held wanted plan₀ room batch₀ : List ℕ} (s : Site n he
   all = differs-long n held wanted (s .held-map .long) (s .wanted-map .long)
 
   module _ {i : ℕ} (inside : i < n) where
-    behind : drop (i + 1) room ≡ rooms (drop (i + 1) (differs held wanted)) ++ replicate (1984 - n) 0
+    behind : Filling n (differs held wanted) room (i + 1)
     behind = whole-behind n (s .few) (differs held wanted) all room (s .filled) i inside
 
     -- The search goes over k counts more.
     pub site-count : (k : ℕ) → k ≡ min 125 (n - (i + 1)) → getD (differs held wanted) i false ≡ true
-        → (k ≤ 125)
-        × (i + 1 + k < length room)
-        × (getD room i 0 ≡ 10 + best k (drop (i + 1) room))
-        × ((j : ℕ) → getD (drop (i + 1) room) j 0 < 65536)
-    site-count k e d = (
-      omega arith,
-      omega (arith, s .few, whole-long n (s .few) (differs held wanted) all room (s .filled)),
-      whole-here n (s .few) (differs held wanted) all room (s .filled) i inside
-          ∙ sym (least-open n (s .few) (differs held wanted) all i inside room behind k e d),
-      behind-small n (s .few) (differs held wanted) all i inside room behind,
-    )
+        → Countable room i k
+    site-count k e d =
+        record {
+          few = omega arith;
+          inside = omega (arith, s .few, whole-long n (s .few) (differs held wanted) all room (s .filled));
+          least =
+              whole-here n (s .few) (differs held wanted) all room (s .filled) i inside
+              ∙ sym (least-open i (s .few) all behind k e d);
+          small = behind-small i (s .few) all behind;
+        }
 
     module _ {plan batch : List ℕ} {packets size : ℕ} (t : Walking n wanted (differs held wanted) plan₀ batch₀ plan batch packets size i) where
       pub site-skip : getD (differs held wanted) i false ≡ false → Walking n wanted (differs held wanted) plan₀ batch₀ plan batch packets size (i + 1)
@@ -62,7 +62,7 @@ module _ {n : ℕ} {held wanted plan₀ room batch₀ : List ℕ} (s : Site n he
 
       module _ {k count : ℕ} (d : getD (differs held wanted) i false ≡ true) (f : k ≡ min 125 (n - (i + 1))) (e : count ≡ 1 + more k (drop (i + 1) room)) where
         counted : count ≡ 1 + more 125 (rooms (drop (i + 1) (differs held wanted)))
-        counted = omega (arith, behind-more n (s .few) (differs held wanted) all i inside room behind k f)
+        counted = omega (arith, behind-more i (s .few) all behind k f)
 
         pub site-place : Place n packets size i count plan batch
         unfolding planOf
@@ -87,7 +87,7 @@ module _ {n : ℕ} {held wanted plan₀ room batch₀ : List ℕ} (s : Site n he
             (walk-part all inside t d counted (s .wanted-map .long) g (h .1))
 
   pub site-done : {plan batch : List ℕ} {packets size i : ℕ} → n ≤ i
-      → Walking n wanted (differs held wanted) plan₀ batch₀ plan batch packets size i → Walked held wanted plan₀ batch₀ plan batch packets size
+      → Walking n wanted (differs held wanted) plan₀ batch₀ plan batch packets size i → Written held wanted plan₀ batch₀ plan batch packets size
   site-done h t =
       walk-done all h (omega (arith, s .few, s .plan-long))
       (omega (arith, s .batch-long, batch-short n held wanted (s .few) (s .held-map) (s .wanted-map))) t

@@ -1,6 +1,6 @@
 -- The loop that walks the points and writes plan and batch: a point that does not differ is passed, one that does opens a packet. What is written
 -- are the parts so far, and the parts from the point on are still to come.
-use Prim.Native.Nat.{ℕ, zero, suc, _+_, _-_, _*_, _≤_, _<_}
+use Prim.Native.Nat.{ℕ, zero, suc, _+_, _*_, _≤_, _<_}
 use mathlib.Core.Path.{_≡_, refl, sym, ap, _∙_}
 use mathlib.Core.Bool.{Bool, true, false, not, _&&_}
 use mathlib.Core.List.{List, [], _∷_, _++_, append-assoc, append-nil, map}
@@ -10,12 +10,11 @@ use native.Mathlib.Omega.{arith}
 use lib.ListN.{length, drop, getD, length-append, length-drop, drop-of-length-le}
 use lib.Seq.{drop-cons, drop-drop, sets}
 use lib.Dec.{eqb}
-use Rattle.wire.specs.Tables.{bytes}
-use Rattle.wire.specs.Buffers.{over}
 use Rattle.packet.proofs.Stores.{sets-sets, sets-over}
 use Rattle.upload.specs.Cost.{differs, rooms, more}
 use Rattle.upload.specs.Plan.{Part, planFrom, planOf, planNumbers, cost, packetFor, packetsOf, joined, batchOf}
 use Rattle.upload.specs.Parts.{part, Fits}
+use Rattle.upload.specs.Planning.{Written}
 use Rattle.upload.proofs.Least.{least-count}
 use Rattle.upload.proofs.Reading.{meant}
 
@@ -162,15 +161,9 @@ module _ {n : ℕ} {w : List ℕ} {ds : List Bool} {plan₀ batch₀ plan batch 
         }
 
 -- At the end plan and batch are whole.
-pub record Walked (held w plan₀ batch₀ plan batch : List ℕ) (packets size : ℕ) : Type 0 where
-  pub packets-are : packets ≡ length (planOf held w)
-  pub bytes-are : size ≡ length (batchOf held w)
-  pub plan-is : plan ≡ over (planNumbers (planOf held w)) plan₀
-  pub batch-is : batch ≡ over (batchOf held w) batch₀
-
 pub walk-done : {n : ℕ} {held w plan₀ batch₀ plan batch : List ℕ} {packets size i : ℕ} → length (differs held w) ≡ n → n ≤ i
     → 2 * n ≤ length plan₀ → length (batchOf held w) ≤ length batch₀ → Walking n w (differs held w) plan₀ batch₀ plan batch packets size i
-    → Walked held w plan₀ batch₀ plan batch packets size
+    → Written held w plan₀ batch₀ plan batch packets size
 unfolding planFrom planOf packetsOf batchOf
 walk-done {n} {held} {w} {plan₀} {batch₀} {i = i} all end room buffer t =
     let ds : List Bool = differs held w in

@@ -5,6 +5,7 @@ use mathlib.Core.Bool.{Bool, true, not, cond, _&&_}
 use mathlib.Core.List.{List, [], _∷_}
 use lib.ListN.{length, getD}
 use lib.Dec.{eqb, leb}
+use Rattle.upload.specs.Sizes.{mostCount, mostMore}
 
 -- For each point, two numbers each, whether held differs from wanted there.
 unfoldable pub differs : List ℕ → List ℕ → List Bool
@@ -24,7 +25,7 @@ best (suc k) (x ∷ r) = min x (4 + best k r)
 -- Rule 6.2: a point that does not differ needs no packet; one that does opens one: 6 bytes and its own 4, with 125 points more to
 -- take.
 abbrev pub least : Bool → List ℕ → ℕ
-least d r = cond d (10 + best 125 r) (best 0 r)
+least d r = cond d (10 + best mostMore r) (best 0 r)
 
 -- A room with one point more in front. The room is an argument here, so that `rooms` names it once.
 abbrev pub push : Bool → List ℕ → List ℕ
@@ -52,8 +53,8 @@ roomAt ds i = getD (rooms ds) i 0
 -- attains it.
 pub record SmallestCount (ds : List Bool) (count : ℕ) : Type 0 where
   pub some : 1 ≤ count
-  pub few : count ≤ 126
+  pub few : count ≤ mostCount
   pub within : count ≤ length (true ∷ ds)
   pub attained : roomAt (true ∷ ds) 0 ≡ 6 + 4 * count + roomAt (true ∷ ds) count
-  pub lower : (c : ℕ) → 1 ≤ c → c ≤ 126 → c ≤ length (true ∷ ds) → roomAt (true ∷ ds) 0 ≤ 6 + 4 * c + roomAt (true ∷ ds) c
+  pub lower : (c : ℕ) → 1 ≤ c → c ≤ mostCount → c ≤ length (true ∷ ds) → roomAt (true ∷ ds) 0 ≤ 6 + 4 * c + roomAt (true ∷ ds) c
   pub smallest : (c : ℕ) → 1 ≤ c → c < count → roomAt (true ∷ ds) 0 < 6 + 4 * c + roomAt (true ∷ ds) c

@@ -1,7 +1,9 @@
 -- Upload planning: the plan that rule 6.2 fixes, its batch, and the judge of lists of packets.
+pub mod Sizes
 pub mod Cost
 pub mod Plan
 pub mod Judge
 pub mod Parts
 pub mod Planning
 pub mod Examples
+pub mod Internal

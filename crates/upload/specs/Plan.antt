@@ -1,11 +1,14 @@
 -- Rules 6.1 to 6.3: the plan, its parts of start and count, and its packets.
 use Prim.Native.Nat.{ℕ, zero, suc, _+_, _*_}
+use mathlib.Core.Path.{_≡_}
 use mathlib.Core.Bool.{Bool, true, false}
 use mathlib.Core.List.{List, [], _∷_, _++_, map}
-use lib.ListN.{take, drop}
+use lib.ListN.{length, take, drop}
 use Rattle.wire.specs.Numbers.{wordBytes}
 use Rattle.wire.specs.Tables.{bytes}
+use Rattle.packet.specs.Frame.{announced}
 use Rattle.packet.specs.Making.{packetOf}
+use Rattle.upload.specs.Sizes.{mostMore}
 use Rattle.upload.specs.Cost.{differs, rooms, more}
 
 -- Rule 6.1: one packet of a plan.
@@ -19,7 +22,7 @@ planFrom i k [] = []
 planFrom i (suc k) (d ∷ ds) = planFrom (suc i) k ds
 planFrom i zero (false ∷ ds) = planFrom (suc i) zero ds
 planFrom i zero (true ∷ ds) =
-    record { start = i; count = suc (more 125 (rooms ds)) } ∷ planFrom (suc i) (more 125 (rooms ds)) ds
+    record { start = i; count = suc (more mostMore (rooms ds)) } ∷ planFrom (suc i) (more mostMore (rooms ds)) ds
 
 -- Rule 6.2: the plan for a map held and one wanted.
 unfoldable pub planOf : List ℕ → List ℕ → List Part
@@ -46,6 +49,13 @@ joined (p ∷ ps) = p ++ joined ps
 -- Rule 6.3: the packets of the plan, one behind the other.
 unfoldable pub batchOf : List ℕ → List ℕ → List ℕ
 batchOf held wanted = joined (packetsOf held wanted)
+
+-- Rule 2.4: packets back to back, whatever stands behind them, of which each has as many bytes as it announces: who walks by these
+-- numbers finds just these packets.
+pub data EachAnnounced (rest : List ℕ) : List (List ℕ) → Type 0 where
+  none : EachAnnounced rest []
+  next : {p : List ℕ} {ps : List (List ℕ)} → announced (p ++ (joined ps ++ rest)) ≡ length p → EachAnnounced rest ps
+      → EachAnnounced rest (p ∷ ps)
 
 -- Rule 6.4: the plan's numbers as they are lent: start and count in turn.
 unfoldable pub planNumbers : List Part → List ℕ

@@ -9,6 +9,7 @@ use lib.Dec.{eqb, leb, ltb}
 use Rattle.wire.specs.First.{first}
 use Rattle.wire.specs.Buffers.{over}
 use Rattle.wire.specs.Tables.{words, bytes, longs, longBytes}
+use Rattle.upload.specs.Sizes.{mostPoints, planSize, roomSize, batchSize}
 use Rattle.upload.specs.Cost.{differs, rooms}
 use Rattle.upload.specs.Plan.{Part, planOf, cost, planNumbers, packetFor, batchOf, joined}
 use Rattle.upload.specs.Judge.{Turns, totalBytes, AllAccepted}
@@ -25,26 +26,41 @@ sheets plan room batch = record { plan = plan; room = room; batch = batch }
 
 -- Rule 6.4, 10: a map has 1 to 1,984 points.
 abbrev pub pointsWrong : ℕ → Bool
-pointsWrong n = eqb n 0 || ltb 1984 n
+pointsWrong n = eqb n 0 || ltb mostPoints n
 
--- Rule 6.4, 1: lengths, for so many numbers (or bytes) a point, in the plan and in the room.
-abbrev pub lengthsWrong : ℕ → ℕ → ℕ → ℕ → List ℕ → List ℕ → Sheets → Bool
-lengthsWrong each plans places n held wanted s =
+-- How long lists are that planning is lent, or asks for, the batch apart.
+pub record Lengths : Type 0 where
+  pub held : ℕ
+  pub wanted : ℕ
+  pub plan : ℕ
+  pub room : ℕ
+
+abbrev pub lengths : ℕ → ℕ → ℕ → ℕ → Lengths
+lengths held wanted plan room = record { held = held; wanted = wanted; plan = plan; room = room }
+
+-- Rule 6.4, 1: a list is not as long as is asked for; the batch may be longer.
+abbrev pub lengthsWrong : Lengths → Lengths → ℕ → Bool
+lengthsWrong lent asked batch =
     not
-    (eqb (length held) (each * n)
-    && eqb (length wanted) (each * n)
-    && eqb (length (s .plan)) plans
-    && eqb (length (s .room)) places
-    && leb 8032 (length (s .batch)))
+    (eqb (lent .held) (asked .held)
+    && eqb (lent .wanted) (asked .wanted)
+    && eqb (lent .plan) (asked .plan)
+    && eqb (lent .room) (asked .room)
+    && leb batchSize batch)
 
 -- Rule 6.4: 10 is tried first.
+abbrev pub refusalsOf : ℕ → Lengths → Lengths → ℕ → List (ℕ × Bool)
+refusalsOf n lent asked batch = (10, pointsWrong n) ∷ (1, lengthsWrong lent asked batch) ∷ []
+
+-- The same of lists, for so many numbers (or bytes) a point, in the plan and in the room.
 abbrev pub refusalsWith : ℕ → ℕ → ℕ → ℕ → List ℕ → List ℕ → Sheets → List (ℕ × Bool)
 refusalsWith each plans places n held wanted s =
-    (10, pointsWrong n) ∷ (1, lengthsWrong each plans places n held wanted s) ∷ []
+    refusalsOf n (lengths (length held) (length wanted) (length (s .plan)) (length (s .room)))
+    (lengths (each * n) (each * n) plans places) (length (s .batch))
 
 -- Rule 6.4: maps and plan of 16-bit numbers, room of 32-bit ones.
 abbrev pub planRefusals : ℕ → List ℕ → List ℕ → Sheets → List (ℕ × Bool)
-planRefusals = refusalsWith 2 3968 1985
+planRefusals = refusalsWith 2 planSize roomSize
 
 -- Rule 6.4: the status, then how many packets and how many bytes, 0 and 0 if refused. Then the lists, as they are left.
 pub record PlanOut : Type 0 where
@@ -58,7 +74,7 @@ planOut status packets bytes s = record { status = status; packets = packets; by
 
 -- Rule 6.5: the room of N points: N + 1 numbers, and 0 up to the end.
 abbrev pub roomOf : ℕ → List ℕ → List ℕ → List ℕ
-roomOf n held wanted = rooms (differs held wanted) ++ replicate (1984 - n) 0
+roomOf n held wanted = rooms (differs held wanted) ++ replicate (mostPoints - n) 0
 
 -- Rule 6.5: what a number of the room means. The points from i on are taken as a map of their own: the bytes of the batch for
 -- them. Some list of packets that turns these points of held into those of wanted has just so many bytes, and no such list has
@@ -75,6 +91,21 @@ pub record RoomMeans (n : ℕ) (held wanted room : List ℕ) : Type 0 where
   pub long : n ≤ 1984 → length room ≡ 1985
   pub below : (i : ℕ) → i ≤ n → LeastFrom n held wanted i (getD room i 0)
   pub beyond : (i : ℕ) → n ≤ i → i < 1985 → getD room i 0 ≡ 0
+
+-- ---- The two steps of planning that is not refused: measuring fills the room, writing makes plan and batch from it.
+
+-- Rules 6.1 and 1.3: two maps of n points, of so many numbers (or bytes) a point.
+pub record MapsLent (each n : ℕ) (held wanted : List ℕ) : Type 0 where
+  pub few : n ≤ mostPoints
+  pub held-long : length held ≡ each * n
+  pub wanted-long : length wanted ≡ each * n
+
+-- Rules 6.2 to 6.5, of writing: how many packets and how many bytes; plan and batch written over the start of their lists.
+pub record Written (held wanted plan₀ batch₀ plan batch : List ℕ) (packets size : ℕ) : Type 0 where
+  pub packets-are : packets ≡ length (planOf held wanted)
+  pub bytes-are : size ≡ length (batchOf held wanted)
+  pub plan-is : plan ≡ over (planNumbers (planOf held wanted)) plan₀
+  pub batch-is : batch ≡ over (batchOf held wanted) batch₀
 
 -- Rules 6.4 and 6.5: plan and batch are written over the start of their lists, the room is filled; a refusal leaves all three.
 abbrev pub plannedBy : ℕ → ℕ → List ℕ → List ℕ → Sheets → PlanOut
@@ -174,7 +205,7 @@ bytePlanOut o = planOut (o .status) (o .packets) (o .bytes) (sheetBytes (o .left
 
 -- Rules 1.3 and 6.4.
 abbrev pub bytePlanRefusals : ℕ → List ℕ → List ℕ → Sheets → List (ℕ × Bool)
-bytePlanRefusals = refusalsWith 4 7936 7940
+bytePlanRefusals = refusalsWith 4 (2 * planSize) (4 * roomSize)
 
 -- Rules 1.3 and 6.4: a refusal leaves every byte; else what planning on the numbers in these bytes gives.
 unfoldable pub plannedBytes : ℕ → List ℕ → List ℕ → Sheets → PlanOut

@@ -97,6 +97,6 @@ pub extern "C" fn vermolgas_plan(
     ensures { λ r. ⌜ PackedPlan points (now (held .entry)) (now (wanted .entry)) (sheets (now (plan .entry)) (now (room .entry)) (now (batch .entry)))
         r (sheets (now (plan .exit)) (now (room .exit)) (now (batch .exit))) ⌝ }
 {
-    let a = planner8::plan_bytes(points, held, wanted, plan, room, batch);
+    let a = planner8::plan(points, held, wanted, plan, room, batch);
     a.status as u64 + 256 * a.packets as u64 + 4294967296 * a.bytes as u64
 }

@@ -4,9 +4,6 @@ use Rattle.batch.proofs.Writing.{head-stores}
 use borrow.Author.Needs.{needs}
 use Rattle.batch.proofs.head_at.Statement.{statement}
 use Rattle.batch.proofs.head_at.Tie as tie
-use Rattle.batch.proofs.head_at.Reads as reads
-use Rattle.batch.proofs.head_at.Lts as lts
-use Rattle.wire.proofs.put_word.Reads as put-word-reads
 
 put-word-requires : tie.Need-put-word-requires
 put-word-requires c κs = search needs

@@ -19,37 +19,40 @@ use Rattle.packet.proofs.frame_of.Tie as tie
 is-header : (c : tie.After-header) → c .header .result .value ≡ headerOf (c .before .before .before .args .packet .now)
 is-header c = c .header .ensures .0 ∙ rw (c .before .new .ensures)
 
-is-size : (c : tie.After-header)
-    → length (c .before .before .before .args .packet .now) - fields (c .header .result .value) ≡ dataSize (c .before .before .before .args .packet .now)
-is-size c = rw (is-header c)
+is-fields : (c : tie.After-fields) → c .fields .result ≡ fields (headerOf (c .before .before .before .before .args .packet .now))
+is-fields c = c .fields .ensures ∙ rw (is-header (c .before))
+
+is-size : (c : tie.After-fields)
+    → length (c .before .before .before .before .args .packet .now) - c .fields .result ≡ dataSize (c .before .before .before .before .args .packet .now)
+is-size c = rw (is-fields c)
 
 -- The tests that failed, one by one.
-no-2 : (c : tie.Else1) → tooShort (c .before .before .before .before .args .packet .now) ≡ false
-no-2 c = le-ltb _ _ (rw (is-header (c .before)) at (c .if1 .left))
+no-2 : (c : tie.Else1) → tooShort (c .before .before .before .before .before .args .packet .now) ≡ false
+no-2 c = le-ltb _ _ (rw (is-fields (c .before)) at (c .if1 .left))
 
-no-3 : (c : tie.Else2) → tooLong (c .before .before .before .before .before .args .packet .now) ≡ false
+no-3 : (c : tie.Else2) → tooLong (c .before .before .before .before .before .before .args .packet .now) ≡ false
 no-3 c = le-ltb _ _ (c .if2 .left)
 
-at-length : (c : tie.After-opcode) → c .opcode .result .next .at ≡ lengthPlace (headerOf (c .before .before .before .before .before .before .args .packet .now))
-at-length c = omega (arith, is-header (c .before .before .before))
+at-length : (c : tie.After-opcode) → c .opcode .result .next .at ≡ lengthPlace (headerOf (c .before .before .before .before .before .before .before .args .packet .now))
+at-length c = omega (arith, is-header (c .before .before .before .before))
 
 -- The length that was taken is compared as the definition has it.
 sized : (c : tie.After-length) (b : Bool)
-    → eqb (c .length .result .value) (dataSize (c .before .before .before .before .before .before .before .args .packet .now)) ≡ b
-    → lengthDiffers (c .before .before .before .before .before .before .before .args .packet .now) ≡ not b
+    → eqb (c .length .result .value) (dataSize (c .before .before .before .before .before .before .before .before .args .packet .now)) ≡ b
+    → lengthDiffers (c .before .before .before .before .before .before .before .before .args .packet .now) ≡ not b
 sized c b e =
-    let start = c .before .before .before .before in
+    let start = c .before .before .before .before .before in
     let p = start .before .before .before .args .packet .now in
     stand-in (eqb (hasLength (headerOf p)) 1) (wordAt p (lengthPlace (headerOf p))) (dataSize p) (c .length .result .value)
-    (rw (is-header start, at-length (c .before)) at (c .length .ensures .0))
+    (rw (is-fields (c .before .before .before .before), is-header start, at-length (c .before)) at (c .length .ensures .0))
     ∙ ap not e
 
-no-4 : (c : tie.Else3) → lengthDiffers (c .before .before .before .before .before .before .before .before .before .args .packet .now) ≡ false
+no-4 : (c : tie.Else3) → lengthDiffers (c .before .before .before .before .before .before .before .before .before .before .args .packet .now) ≡ false
 no-4 c =
     let taken = c .before .before in
     sized taken true (eq-eqb _ _ (c .if3 .left ∙ is-size (taken .before .before .before .before)))
 
-no-5 : (c : tie.Else4) → checksumDiffers (c .before .before .before .before .before .before .before .before .before .before .before .args .packet .now) ≡ false
+no-5 : (c : tie.Else4) → checksumDiffers (c .before .before .before .before .before .before .before .before .before .before .before .before .args .packet .now) ≡ false
 no-5 c = sym (c .before .sum-differs .ensures) ∙ c .if4 .left
 
 new-requires : tie.Need-new-requires
@@ -58,24 +61,15 @@ new-requires c κs = search needs
 header-requires : tie.Need-header-requires
 header-requires c κs = search needs
 
-add-fields : tie.Need-add-fields
-add-fields c = search needs
-
-mul-fields : tie.Need-mul-fields
-mul-fields c = search needs
-
-add-fields-2 : tie.Need-add-fields-2
-add-fields-2 c = search needs
-
-add-fields-3 : tie.Need-add-fields-3
-add-fields-3 c = search needs
+fields-requires : tie.Need-fields-requires
+fields-requires c κs = search needs
 
 broken-requires : tie.Need-broken-requires
 broken-requires c κs = search needs
 
 returns : tie.Need-returns
 returns c =
-    c .broken .ensures ∙ sym (framed-by _ (lt-ltb _ _ (rw (is-header (c .before .before)) at (c .before .if1 .taken))) refl refl refl refl)
+    c .broken .ensures ∙ sym (framed-by _ (lt-ltb _ _ (rw (is-fields (c .before .before)) at (c .before .if1 .taken))) refl refl refl refl)
 
 broken-requires-2 : tie.Need-broken-requires-2
 broken-requires-2 c κs = search needs
@@ -106,7 +100,7 @@ returns-3 c =
 
 sum-differs-requires : tie.Need-sum-differs-requires
 sum-differs-requires c κs =
-    let start = c .before .before .before .before .before .before in
+    let start = c .before .before .before .before .before .before .before in
     (is-header start, omega arith)
 
 broken-requires-4 : tie.Need-broken-requires-4
@@ -127,15 +121,15 @@ returns-5 c =
     let at-5 = c .before .before in
     let at-4 = at-5 .before .before in
     let at-3 = at-4 .before .before .before .before in
-    let start = at-3 .before .before in
+    let start = at-3 .before .before .before in
     c .broken5 .ensures
     ∙ sym (framed-by _ (no-2 (at-3 .before)) (no-3 at-3) (no-4 at-4) (no-5 at-5) (ap not (ne-eqb _ _ (rw (is-header start) at (c .before .if5 .taken)))))
 
-mul-t10 : tie.Need-mul-t10
-mul-t10 c = search needs
+mul-t12 : tie.Need-mul-t12
+mul-t12 c = search needs
 
-cast-t20 : tie.Need-cast-t20
-cast-t20 c = search needs
+cast-t13 : tie.Need-cast-t13
+cast-t13 c = search needs
 
 returns-6 : tie.Need-returns-6
 returns-6 c =
@@ -143,11 +137,11 @@ returns-6 c =
     let at-4 = at-5 .before .before in
     let taken = at-4 .before .before in
     let at-3 = at-4 .before .before .before .before in
-    let start = at-3 .before .before in
+    let start = at-3 .before .before .before in
     let p = start .before .before .before .args .packet .now in
     let one : start .header .result .next .at ≡ 1 = omega arith in
     standing-as p (rw (one, is-header start) at (taken .before .opcode .ensures .0)) (rw (is-header start))
-    (taken .length .ensures .1 ∙ rw (at-length (taken .before), is-header start)) (is-size start)
+    (taken .length .ensures .1 ∙ rw (at-length (taken .before), is-header start)) (is-size (at-3 .before .before))
     ∙ sym (framed-by p (no-2 (at-3 .before)) (no-3 at-3) (no-4 at-4) (no-5 at-5) (ap not (eq-eqb _ _ (rw (is-header start) at (c .if5 .left)))))
 
 pub frame-of-spec : {M : Type 1} → statement M
@@ -156,10 +150,7 @@ frame-of-spec =
     (tie.spec
     new-requires
     header-requires
-    add-fields
-    mul-fields
-    add-fields-2
-    add-fields-3
+    fields-requires
     broken-requires
     returns
     broken-requires-2
@@ -174,6 +165,6 @@ frame-of-spec =
     returns-4
     broken-requires-5
     returns-5
-    mul-t10
-    cast-t20
+    mul-t12
+    cast-t13
     returns-6)

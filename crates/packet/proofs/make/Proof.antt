@@ -14,17 +14,8 @@ returns c = make-promised _ _ _ _ (sym (made-small _ _ _ _ (omega arith)))
 mul-o : tie.Need-mul-o
 mul-o c = search needs
 
-add-fields : tie.Need-add-fields
-add-fields c = search needs
-
-mul-fields : tie.Need-mul-fields
-mul-fields c = search needs
-
-add-fields-2 : tie.Need-add-fields-2
-add-fields-2 c = search needs
-
-add-fields-3 : tie.Need-add-fields-3
-add-fields-3 c = search needs
+fields-requires : tie.Need-fields-requires
+fields-requires c κs = search needs
 
 sub-if2 : tie.Need-sub-if2
 sub-if2 c = search needs
@@ -63,10 +54,7 @@ make-spec =
     (tie.spec
     returns
     mul-o
-    add-fields
-    mul-fields
-    add-fields-2
-    add-fields-3
+    fields-requires
     sub-if2
     returns-2
     judge-requires

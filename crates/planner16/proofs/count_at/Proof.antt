@@ -54,7 +54,7 @@ add-if1-2 c =
     let next = at-start .args .i + 1 in
     let taken = at-start .args .most - at-loop .loop .left in
     let value = at-drop room next taken (next + taken) refl in
-    omega (arith, at-start .pre .3 taken)
+    omega (arith, at-start .pre .small taken)
 
 add-result : tie.Need-add-result Inv-loop μ-loop
 add-result c = omega arith
@@ -67,7 +67,7 @@ returns c =
     let next = at-start .args .i + 1 in
     let taken = at-start .args .most - at-loop .loop .left in
     let value = at-drop room next taken (next + taken) refl in
-    omega (arith, seek-stop (rw length-drop (omega arith)) (omega arith) (at-loop .loop .inv .1) (omega (arith, at-start .pre .2)))
+    omega (arith, seek-stop (rw length-drop (omega arith)) (omega arith) (at-loop .loop .inv .1) (omega (arith, at-start .pre .least)))
 
 sub-left : tie.Need-sub-left Inv-loop μ-loop
 sub-left c = omega arith
@@ -83,7 +83,7 @@ loop-again c =
     let next = at-start .args .i + 1 in
     let taken = at-start .args .most - at-loop .loop .left in
     let value = at-drop room next taken (next + taken) refl in
-    (omega arith, seek-turn (rw length-drop (omega arith)) (omega arith) (at-loop .loop .inv .1) (omega arith) (omega (arith, at-start .pre .2)))
+    (omega arith, seek-turn (rw length-drop (omega arith)) (omega arith) (at-loop .loop .inv .1) (omega arith) (omega (arith, at-start .pre .least)))
 
 add-result-2 : tie.Need-add-result-2 Inv-loop μ-loop
 add-result-2 c = omega arith

@@ -1,10 +1,8 @@
 -- The laws on the filled room behind a point.
 use Prim.Native.Nat.{_+_}
-use mathlib.Core.Path.{_≡_, sym, _∙_}
+use mathlib.Core.Path.{sym, _∙_}
 use native.Mathlib.Omega.{arith}
-use lib.ListN.{length}
-use Rattle.upload.specs.Cost.{differs}
-use Rattle.upload.proofs.Differs.{differs-long}
+use Rattle.upload.proofs.Differs.{lent-long}
 use Rattle.upload.proofs.Rooms.{at-drop, behind-small, low-small, least-open, least-same}
 use borrow.Author.Needs.{needs}
 use Rattle.planner16.proofs.least_at.Statement.{statement}
@@ -24,30 +22,22 @@ span-requires c κs = search needs
 
 low-requires : tie.Need-low-requires
 low-requires c κs =
-    let at-start = c .before .before .before .before .before .before in
-    let args = at-start .args in
-    let pre = at-start .pre in
-    let ds = differs (args .held .now) (args .wanted .now) in
-    let all : length ds ≡ args .n = differs-long (args .n) (args .held .now) (args .wanted .now) (pre .2) (pre .3) in
-    (omega arith, omega arith, behind-small (args .n) (pre .1) ds all (args .i) (pre .0) (args .room .now) (pre .5))
+    let start = c .before .before .before .before .before .before in
+    let pre = start .pre in
+    (omega arith, omega arith, behind-small (start .args .i) (pre .0 .few) (lent-long (pre .0)) (pre .1))
 
 add-result : tie.Need-add-result
 add-result c =
-    let at-start = c .before .before .before .before .before .before .before in
-    let args = at-start .args in
-    let pre = at-start .pre in
-    let ds = differs (args .held .now) (args .wanted .now) in
-    let all : length ds ≡ args .n = differs-long (args .n) (args .held .now) (args .wanted .now) (pre .2) (pre .3) in
-    omega (arith, c .low .ensures, low-small (args .n) (pre .1) ds all (args .i) (pre .0) (args .room .now) (pre .5) (omega arith) (c .before .span .result))
+    let start = c .before .before .before .before .before .before .before in
+    let pre = start .pre in
+    omega (arith, c .low .ensures, low-small (start .args .i) (pre .0 .few) (lent-long (pre .0)) (pre .1) (c .before .span .result))
 
 returns : tie.Need-returns
 returns c =
-    let at-start = c .before .before .before .before .before .before .before in
-    let args = at-start .args in
-    let pre = at-start .pre in
-    let ds = differs (args .held .now) (args .wanted .now) in
-    let all : length ds ≡ args .n = differs-long (args .n) (args .held .now) (args .wanted .now) (pre .2) (pre .3) in
-    omega (arith, c .low .ensures, least-open (args .n) (pre .1) ds all (args .i) (pre .0) (args .room .now) (pre .5) (c .before .span .result) (c .before .span .ensures) (sym (c .before .before .before .differs-at .ensures) ∙ c .before .before .if1 .taken))
+    let start = c .before .before .before .before .before .before .before in
+    let pre = start .pre in
+    let differ = sym (c .before .before .before .differs-at .ensures) ∙ c .before .before .if1 .taken in
+    omega (arith, c .low .ensures, least-open (start .args .i) (pre .0 .few) (lent-long (pre .0)) (pre .1) (c .before .span .result) (c .before .span .ensures) differ)
 
 mul-result : tie.Need-mul-result
 mul-result c = search needs
@@ -57,14 +47,11 @@ shared-slice-read-result c = search needs
 
 returns-2 : tie.Need-returns-2
 returns-2 c =
-    let at-start = c .before .before .before .before .before .before in
-    let args = at-start .args in
-    let pre = at-start .pre in
-    let ds = differs (args .held .now) (args .wanted .now) in
-    let all : length ds ≡ args .n = differs-long (args .n) (args .held .now) (args .wanted .now) (pre .2) (pre .3) in
-    let next = args .i + 1 in
-    at-drop (args .room .now) next 0 next (omega arith)
-    ∙ least-same (args .n) (pre .1) ds all (args .i) (pre .0) (args .room .now) (pre .5) (omega arith) (sym (c .before .before .differs-at .ensures) ∙ c .before .if1 .left)
+    let start = c .before .before .before .before .before .before in
+    let pre = start .pre in
+    let next = start .args .i + 1 in
+    at-drop (start .args .room .now) next 0 next (omega arith)
+    ∙ least-same (start .args .i) (pre .0 .few) (lent-long (pre .0)) (pre .1) (sym (c .before .before .differs-at .ensures) ∙ c .before .if1 .left)
 
 pub least-at-spec : {M : Type 1} → statement M
 least-at-spec =

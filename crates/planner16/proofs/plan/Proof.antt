@@ -2,7 +2,7 @@
 use mathlib.Core.Path.{_≡_, sym, _∙_}
 use Rattle.wire.specs.First.{first}
 use Rattle.upload.specs.Planning.{Sheets, sheets, planRefusals, PointsRight, NumbersRight}
-use Rattle.upload.proofs.Outcome.{fit, refused, done}
+use Rattle.upload.proofs.Outcome.{fit, maps-lent, refused, done}
 use borrow.Author.Needs.{needs}
 use Rattle.planner16.proofs.plan.Statement.{statement}
 use Rattle.planner16.proofs.plan.Tie as tie
@@ -33,15 +33,15 @@ fits c = fit _ _ _ _ _ _ _ (silent c)
 returns : tie.Need-returns
 returns c = refused _ _ _ _ (c .before .refusal .ensures) (c .if1 .taken)
 
-fill-room-requires : tie.Need-fill-room-requires
-fill-room-requires c κs =
+measure-requires : tie.Need-measure-requires
+measure-requires c κs =
     let f = fits (c .before) in
-    (f .0 .few, f .1 .held-long, f .1 .wanted-long, f .1 .room-long)
+    (maps-lent f, f .1 .room-long)
 
-write-plan-requires : tie.Need-write-plan-requires
-write-plan-requires c κs =
+write-requires : tie.Need-write-requires
+write-requires c κs =
     let f = fits (c .before .before .before .before .before .before .before) in
-    (f .0 .few, f .1 .held-long, f .1 .wanted-long, f .1 .plan-long, f .1 .batch-long, c .before .before .before .before .before .fill-room .ensures)
+    (maps-lent f, f .1 .plan-long, f .1 .batch-long, c .before .before .before .before .before .measure .ensures)
 
 same-length : tie.Need-same-length
 same-length c = search needs
@@ -58,13 +58,13 @@ returns-2 c =
     let taken = filled .before .before in
     let args = at-start taken .args in
     let f = fits taken in
-    let wrote = c .before .before .before .before .write-plan .ensures in
+    let wrote = c .before .before .before .before .write .ensures in
     rw (wrote .0)
     (done (args .points) (args .held .now) (args .wanted .now) (lent taken) (silent taken)
     (record { long = f .1 .held-long; words = λ k. taken .before .before .before .before .before .before .shared-slice-known .given k .fits })
     (record { long = f .1 .wanted-long; words = λ k. taken .before .before .before .before .before .shared-slice-known2 .given k .fits })
-    (filled .fill-room .ensures)
-    (record { packets-are = wrote .1; bytes-are = wrote .2; plan-is = wrote .3; batch-is = wrote .4 }))
+    (filled .measure .ensures)
+    (wrote .1))
 
 pub plan-spec : {M : Type 1} → statement M
 plan-spec =
@@ -74,8 +74,8 @@ plan-spec =
     mul-t14
     refusal-requires
     returns
-    fill-room-requires
-    write-plan-requires
+    measure-requires
+    write-requires
     same-length
     same-length-2
     same-length-3

@@ -9,11 +9,11 @@ use Rattle.vermolgas.specs.Packed.{packedPlan}
 use Rattle.vermolgas.proofs.vermolgas_plan.Statement.{statement}
 use Rattle.vermolgas.proofs.vermolgas_plan.Tie as tie
 
-small : (c : tie.After-struct-known) → (c .before .before .before .before .before .before .before .plan-bytes .result .packets ≤ 8032) × (c .before .before .before .before .before .before .before .plan-bytes .result .bytes ≤ 8032)
-small c = answer-small (c .before .before .before .before .before .before .before .plan-bytes .ensures)
+small : (c : tie.After-struct-known) → (c .before .before .before .before .before .before .before .plan .result .packets ≤ 8032) × (c .before .before .before .before .before .before .before .plan .result .bytes ≤ 8032)
+small c = answer-small (c .before .before .before .before .before .before .before .plan .ensures)
 
-plan-bytes-requires : tie.Need-plan-bytes-requires
-plan-bytes-requires c κs = search needs
+plan-requires : tie.Need-plan-requires
+plan-requires c κs = search needs
 
 cast-result : tie.Need-cast-result
 cast-result c = search needs
@@ -41,8 +41,8 @@ same-length-3 c = search needs
 
 returns : tie.Need-returns
 returns c =
-    let a = c .before .before .before .before .before .before .before .plan-bytes .result in
-    let told = c .before .before .before .before .before .before .before .plan-bytes .ensures in
+    let a = c .before .before .before .before .before .before .before .plan .result in
+    let told = c .before .before .before .before .before .before .before .plan .ensures in
     let s = small c in
     let packets : (a .status + 256 * a .packets + 4294967296 * a .bytes) / 256 % 16777216 ≡ a .packets = omega (arith, s) in
     let bytes : (a .status + 256 * a .packets + 4294967296 * a .bytes) / 4294967296 ≡ a .bytes = omega (arith, s) in
@@ -57,7 +57,7 @@ pub vermolgas-plan-spec : {M : Type 1} → statement M
 vermolgas-plan-spec =
     tie.close
     (tie.spec
-    plan-bytes-requires
+    plan-requires
     cast-result
     mul-result
     add-result

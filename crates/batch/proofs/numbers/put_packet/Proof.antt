@@ -1,0 +1,26 @@
+-- The walk for both families, on 16-bit numbers.
+use mir.Syntax.{w16}
+use contract.Running.{givenOf, tables, tablesOf}
+use denote.Triple.Spec.{tripleOf}
+use denote.Triple.Table.{entered, cited}
+use Rattle.batch.proofs.Packet.{Open, Head, Points, packet-meets}
+use Rattle.batch.proofs.open.Symbol as open-def
+use Rattle.batch.proofs.open.Met as open-thm
+use Rattle.batch.proofs.head.Symbol as head-def
+use Rattle.batch.proofs.head.Met as head-thm
+use Rattle.batch.proofs.numbers.points.Symbol as points-def
+use Rattle.batch.proofs.numbers.points.Met as points-thm
+use Rattle.batch.proofs.numbers.put_packet.Key.{name as #batch·put-packet}
+use Rattle.batch.proofs.numbers.put_packet as this
+use Rattle.batch.proofs.numbers.put_packet.Statement as stated
+use Rattle.batch.proofs.numbers.put_packet.Code as code
+
+pub put-packet-spec : {M : Type 1} → stated.statement M
+unfolding code.routine tablesOf
+put-packet-spec 𝓤 H 𝓜 𝓖 𝓡 =
+    entered 𝓤 H (tripleOf 𝓤 H (𝓖 .A) this.signature (this.spec 𝓤 H (𝓖 .A) (𝓜 .mem) (𝓡 .run)))
+    (tables 𝓤 H 𝓜 𝓡 code.env .C) (tables 𝓤 H 𝓜 𝓡 code.env .Λ) #batch·put-packet code.function (code.unfolded 𝓤 H 𝓜 𝓡)
+    (packet-meets w16 points-def.name 2 (λ l. l) (λ map m h. h) 𝓤 H (𝓖 .A) (givenOf 𝓤 H 𝓜 𝓖) (𝓜 .mem) (𝓡 .run) (tablesOf 𝓤 H 𝓜 (tables 𝓤 H 𝓜 𝓡 code.env))
+    (cited 𝓤 H (Open 𝓤 H (𝓖 .A) (𝓜 .mem) (𝓡 .run)) 𝓜 𝓡 code.env open-def.name open-def.routine code.calls-batch·open (open-thm.met 𝓤 H 𝓜 𝓖 𝓡))
+    (cited 𝓤 H (Head 𝓤 H (𝓖 .A) (𝓜 .mem) (𝓡 .run)) 𝓜 𝓡 code.env head-def.name head-def.routine code.calls-batch·head (head-thm.met 𝓤 H 𝓜 𝓖 𝓡))
+    (cited 𝓤 H (Points w16 points-def.name 2 (λ l. l) (λ map m h. h) 𝓤 H (𝓖 .A)) 𝓜 𝓡 code.env points-def.name points-def.routine code.calls-batch·numbers·points (points-thm.met 𝓤 H 𝓜 𝓖 𝓡)))

@@ -1,0 +1,2 @@
+-- What both planners share.
+pub mod Internal
