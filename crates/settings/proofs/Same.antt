@@ -14,7 +14,7 @@ use Rattle.opcode.specs.Fields.{number, wordsAt}
 use Rattle.opcode.specs.Commands.{commandOf}
 use Rattle.wire.proofs.Tests.{and-left, and-right}
 use Rattle.wire.proofs.Copies.{Same, front, part}
-use Rattle.opcode.proofs.Accepts.Fields.{span}
+use Rattle.opcode.specs.Fields.{span}
 use Rattle.settings.specs.Ranges.{right, fieldsOf, shapeRight}
 use Rattle.settings.specs.Layout.{shapeSize}
 

@@ -1,7 +1,9 @@
 // The settings block: where a command's settings stand, whether every setting lies in its range, and reset.
 pub mod layout;
+mod limits;
 
 use layout::*;
+use limits::*;
 ghost use mathlib.Core.Path.{_≡_};
 ghost use mathlib.Core.Bool.{_&&_, _||_};
 ghost use Prim.Native.Nat.{ℕ, _+_, _*_, _≤_, _<_};
@@ -27,10 +29,20 @@ pub fn in_range(block: &[u8]) -> bool
 {
     let fine = picture_in_range(block);
     let fine = both(fine, shape_in_range(block, STAGED_SHAPE));
-    let fine = up_to(fine, block, ENABLE, 1);
+    let fine = up_to(fine, block, ENABLE, MOST_FLAG);
     let fine = both(fine, shape_in_range(block, LIVE_SHAPE));
-    let fine = within(fine, wire::byte(block, SMOOTH_TABLE), 3, 5);
-    let fine = within(fine, wire::byte(block, SMOOTH_ROWS), 3, 5);
+    let fine = within(
+        fine,
+        wire::byte(block, SMOOTH_TABLE),
+        LEAST_SMOOTH,
+        MOST_SMOOTH,
+    );
+    let fine = within(
+        fine,
+        wire::byte(block, SMOOTH_ROWS),
+        LEAST_SMOOTH,
+        MOST_SMOOTH,
+    );
     device_in_range(fine, block)
 }
 
@@ -39,13 +51,13 @@ fn picture_in_range(block: &[u8]) -> bool
     requires { ⌜ length (now block) ≡ blockSize ⌝ }
     ensures { λ r. ⌜ r ≡ right pictureFields (now (block .entry)) 0 ⌝ }
 {
-    let fine = up_to(true, block, DISPLAY, 4);
-    let fine = up_to(fine, block, LATENCY, 1);
+    let fine = up_to(true, block, DISPLAY, MOST_DISPLAY);
+    let fine = up_to(fine, block, LATENCY, MOST_FLAG);
     // Colour 0, 2-8.
-    let fine = up_to(fine, block, CURTAIN, 8);
+    let fine = up_to(fine, block, CURTAIN, MOST_COLOUR);
     let fine = both(fine, block[CURTAIN] != 1);
-    let fine = up_to(fine, block, FLIP, 3);
-    up_to(fine, block, FREEZE, 1)
+    let fine = up_to(fine, block, FLIP, MOST_FLIP);
+    up_to(fine, block, FREEZE, MOST_FLAG)
 }
 
 // The shape rule, of the shape at a place.
@@ -54,8 +66,18 @@ fn shape_in_range(block: &[u8], shape: usize) -> bool
     ensures { λ r. ⌜ r ≡ shapeRight (now (block .entry)) shape ⌝ }
 {
     let fine = within(true, wire::byte(block, shape), 0, 1);
-    let fine = within(fine, wire::word(block, shape + COLUMNS), 2, COLUMN_ENTRIES);
-    let fine = within(fine, wire::word(block, shape + ROWS), 2, ROW_ENTRIES);
+    let fine = within(
+        fine,
+        wire::word(block, shape + COLUMNS),
+        LEAST_SHAPE,
+        MOST_COLUMNS,
+    );
+    let fine = within(
+        fine,
+        wire::word(block, shape + ROWS),
+        LEAST_SHAPE,
+        MOST_ROWS,
+    );
     let fine = both(fine, counts_in_mode(block, shape));
     let fine = list_in_range(fine, block, shape + COLUMN_LIST, COLUMN_ENTRIES);
     list_in_range(fine, block, shape + ROW_LIST, ROW_ENTRIES)
@@ -116,7 +138,7 @@ fn device_in_range(fine: bool, block: &[u8]) -> bool
     let fine = up_to(fine, block, UPDATE_MODE, 0);
     let fine = pins_in_range(fine, block);
     let fine = pwm_in_range(fine, block);
-    let fine = up_to(fine, block, LOCK, 1);
+    let fine = up_to(fine, block, LOCK, MOST_FLAG);
     let fine = uart_port_in_range(fine, block, UART_PORTS);
     let fine = uart_port_in_range(fine, block, UART_PORT_1);
     uart_port_in_range(fine, block, UART_PORT_2)
@@ -130,7 +152,7 @@ fn pins_in_range(fine: bool, block: &[u8]) -> bool
     let mut all = fine;
     let mut i = 0;
     while i < PIN_BYTES {
-        all = up_to(all, block, PINS + i, 1);
+        all = up_to(all, block, PINS + i, MOST_FLAG);
         i += 1;
     }
     all
@@ -155,9 +177,9 @@ fn pwm_port_in_range(fine: bool, block: &[u8], at: usize) -> bool
     requires { ⌜ at + 6 ≤ length (now block) ⌝ }
     ensures { λ r. ⌜ r ≡ (fine && right (behindPort 0x65) (now (block .entry)) at) ⌝ }
 {
-    let fine = within(fine, wire::long(block, at), 20, 10_390_000);
-    let fine = up_to(fine, block, at + 4, 100);
-    up_to(fine, block, at + 5, 1)
+    let fine = within(fine, wire::long(block, at), LEAST_FREQUENCY, MOST_FREQUENCY);
+    let fine = up_to(fine, block, at + 4, MOST_DUTY);
+    up_to(fine, block, at + 5, MOST_FLAG)
 }
 
 // On, baud, bits, stop, parity, flow, two triggers, polarity, source.
@@ -165,16 +187,16 @@ fn uart_port_in_range(fine: bool, block: &[u8], at: usize) -> bool
     requires { ⌜ at + 10 ≤ length (now block) ⌝ }
     ensures { λ r. ⌜ r ≡ (fine && right (behindPort 0x6D) (now (block .entry)) at) ⌝ }
 {
-    let fine = up_to(fine, block, at, 1);
-    let fine = up_to(fine, block, at + 1, 11);
-    let fine = up_to(fine, block, at + 2, 3);
-    let fine = up_to(fine, block, at + 3, 1);
-    let fine = up_to(fine, block, at + 4, 2);
-    let fine = up_to(fine, block, at + 5, 1);
-    let fine = up_to(fine, block, at + 6, 4);
-    let fine = up_to(fine, block, at + 7, 4);
-    let fine = up_to(fine, block, at + 8, 1);
-    up_to(fine, block, at + 9, 1)
+    let fine = up_to(fine, block, at, MOST_FLAG);
+    let fine = up_to(fine, block, at + 1, MOST_BAUD);
+    let fine = up_to(fine, block, at + 2, MOST_BITS);
+    let fine = up_to(fine, block, at + 3, MOST_FLAG);
+    let fine = up_to(fine, block, at + 4, MOST_PARITY);
+    let fine = up_to(fine, block, at + 5, MOST_FLAG);
+    let fine = up_to(fine, block, at + 6, MOST_TRIGGER);
+    let fine = up_to(fine, block, at + 7, MOST_TRIGGER);
+    let fine = up_to(fine, block, at + 8, MOST_FLAG);
+    up_to(fine, block, at + 9, MOST_FLAG)
 }
 
 // Joined to what came before: the byte at a place is at most high.

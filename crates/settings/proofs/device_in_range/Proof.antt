@@ -7,7 +7,7 @@ use lib.Dec.{leb}
 use Rattle.wire.specs.Numbers.{byteAt}
 use Rattle.opcode.specs.declared.Field.{Field}
 use Rattle.opcode.specs.Commands.{commandOf}
-use Rattle.opcode.proofs.Accepts.Fields.{span}
+use Rattle.opcode.specs.Fields.{span}
 use Rattle.settings.specs.Ranges.{right, behindPort, forEach, updateMode, deviceFields}
 use Rattle.settings.proofs.Laws.{right-append, right-byte, device-runs}
 use borrow.Author.Needs.{needs}
