@@ -10,7 +10,7 @@ use Rattle.controller.specs.State.{State}
 use Rattle.controller.specs.Demands.{LentRight, stagedPoints, LiveKept}
 use Rattle.controller.specs.Calls.{Call, stateAfterAll, NoneApplies}
 use Rattle.upload.specs.Cost.{rooms, more, SmallestCount}
-use Rattle.upload.specs.Plan.{batchOf}
+use Rattle.upload.specs.Plan.{packetsOf, batchOf, EachAnnounced}
 use Rattle.upload.specs.Judge.{MapOf}
 use Rattle.upload.specs.Examples.{Examples}
 use Rattle.delivery.specs.Delivery.{Delivered}
@@ -26,6 +26,9 @@ pub record Theorems : Type 0 where
   pub smallest-count : (ds : List Bool) → SmallestCount ds (suc (more 125 (rooms ds)))
   -- Every number of a batch is a byte.
   pub batch-bytes : (n : ℕ) (held wanted : List ℕ) → n ≤ 65536 → MapOf n held → MapOf n wanted → (k : ℕ) → getD (batchOf held wanted) k 0 < 256
+  -- Rule 2.4: who walks a batch by what its packets announce finds just the plan's packets, whatever stands behind them.
+  pub batch-walked : (n : ℕ) (held wanted : List ℕ) → MapOf n held → MapOf n wanted → (rest : List ℕ)
+      → EachAnnounced rest (packetsOf held wanted)
   pub examples : Examples
   -- Rule 2.5, at work: a sum over 256.
   pub sum-wraps : checksum (0xF0 ∷ 0x20 ∷ 0x03 ∷ []) ≡ 0x13

@@ -4,6 +4,7 @@ use Rattle.wire.specs.Checksum.{total, checksum}
 use Rattle.controller.proofs.Demands.{runs, right-running}
 use Rattle.controller.proofs.Live.{live-kept}
 use Rattle.upload.proofs.Least.{room-packet}
+use Rattle.upload.proofs.Announced.{batch-announced}
 use Rattle.upload.proofs.Bytes.{batch-bytes}
 use Rattle.upload.proofs.Examples.{examples}
 use Rattle.delivery.proofs.Sent.{delivered}
@@ -18,6 +19,7 @@ returns c =
       delivered = λ n held wanted h w s reply l. delivered n held wanted h w s reply (runs s reply (right-running l));
       smallest-count = room-packet;
       batch-bytes = λ n held wanted small h w. batch-bytes n small wanted w held h;
+      batch-walked = λ n held wanted h w. batch-announced n held wanted (h .long) (w .long);
       examples = examples;
       sum-wraps = refl;
     }
