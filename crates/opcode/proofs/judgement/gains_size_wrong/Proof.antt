@@ -12,4 +12,4 @@ gains-size-wrong-spec =
     (λ c κs. tt)
     (λ c. omega arith)
     (λ c. omega arith)
-    (λ c. cc))
+    (λ c. rw (c .word .ensures .0)))

@@ -7,4 +7,4 @@ named-only-spec =
     tie.close
     (tie.spec
     (λ c κs. tt)
-    (λ c. cc))
+    (λ c. rw (c .byte .ensures .0)))

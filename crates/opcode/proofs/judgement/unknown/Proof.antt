@@ -6,4 +6,4 @@ pub unknown-spec : {M : Type 1} → statement M
 unknown-spec =
     tie.close
     (tie.spec
-    (λ c. cc))
+    (λ c. rw (c .before .pre)))
