@@ -44,9 +44,23 @@ fn present_plan(held: &[u16], wanted: &[u16]) {
     print_number(b"plan: status ", a.status as u64);
     print_number(b", packets ", a.packets as u64);
     print_number(b", bytes ", a.bytes as u64);
-    io::write_all(1, b"\n ");
-    show::bytes(&batch, a.bytes);
     io::write_all(1, b"\n");
+    show_packets(&batch, a.bytes);
+}
+
+// The packets in the first n bytes of a batch, a line each: where one ends its own header and length field say.
+fn show_packets(batch: &[u8], n: usize) {
+    let mut at = 0;
+    while at < n {
+        if batch.len() <= at {
+            return;
+        }
+        let size = packet::announced(&batch[at..]);
+        io::write_all(1, b" ");
+        show::bytes(&batch[at..], size);
+        io::write_all(1, b"\n");
+        at += size;
+    }
 }
 
 // Numbers of points that no map has, and each lent list once too short or too long; at last all is right. A row of the script has the number of

@@ -1,5 +1,6 @@
 // The front end's part that needs no table: the decision on a packet, the settings of the block, and replies without data. Both families of
 // entries, on 16-bit tables and on tables lent as bytes, stand on it.
+use opcode::bits;
 use packet::Reading;
 use settings::layout::*;
 use wire::Refusal;
@@ -49,7 +50,7 @@ pub fn decide(packet: &[u8], block: &[u8]) -> Reading
     };
     if runs_past(
         opcode as usize,
-        options as usize / 128 % 2 == 1,
+        options as usize / bits::READ % 2 == 1,
         &packet[at..at + size],
         block,
     ) {
@@ -157,13 +158,13 @@ pub fn acknowledge(packet: &[u8], number: usize, reply: &mut [u8]) -> usize
         return 0;
     }
     let header = wire::byte(packet, 0);
-    if header / 64 % 4 == 0 {
+    if header / bits::REPLY % 4 == 0 {
         return 0;
     }
     if number == 1 {
         return 0;
     }
-    reply::seal(reply, number, 0, header / 32 % 2 == 1)
+    reply::seal(reply, number, 0, header / bits::SUM % 2 == 1)
 }
 
 // Rule 3.4: a status, the refusal's number or 0, and the length of the reply, 0 where there is none.

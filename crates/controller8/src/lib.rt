@@ -4,6 +4,7 @@ use controller::GAINS_SIZE;
 use controller::MAP_SIZE;
 use controller::Outcome;
 use controller::REPLY_ROOM;
+use opcode::bits;
 use packet::Reading;
 use settings::layout::BLOCK_SIZE;
 ghost use mathlib.Core.Path.{_≡_};
@@ -142,7 +143,7 @@ fn perform(
         (lent (now (block .entry)) (now (staged .entry)) (now (live .entry)) (now (gains .entry))) (now (reply .entry)) ⌝ }
 {
     let data = &packet[at..at + size];
-    if options / 128 % 2 == 1 {
+    if options / bits::READ % 2 == 1 {
         let n = answer_read(opcode, options, data, block, staged, gains, reply);
         return Outcome { status: 0, size: n };
     }
@@ -182,7 +183,7 @@ fn answer_read(
         (now (reply .entry)) (now (reply .exit)) ⌝ }
 {
     let n = fetch(&mut reply[3..], opcode, options, data, block, staged, gains);
-    reply::seal(reply, 0, n, options / 32 % 2 == 1)
+    reply::seal(reply, 0, n, options / bits::SUM % 2 == 1)
 }
 
 // The data that an accepted read returns, over the start of the buffer. Answers its size.

@@ -1,5 +1,6 @@
 // The judgement of a command, rule by rule: refusals 7 to 11 of rule 4.1.
 use super::Row;
+use super::bits;
 use super::fields::fault;
 use super::lists::first_large;
 use super::lists::rise;
@@ -52,7 +53,7 @@ fn lacks_length(row: Row, opcode: usize, options: usize) -> bool
     requires { ⌜ row ≡ rowOf opcode ⌝ }
     ensures { λ r. ⌜ r ≡ lacksLength opcode options ⌝ }
 {
-    (options / 128 % 2 == 0) & (row.mark == VARIABLE) & (options / 16 % 2 == 0)
+    (options / bits::READ % 2 == 0) & (row.mark == VARIABLE) & (options / bits::LENGTH % 2 == 0)
 }
 
 // 9: the size is wrong for the command.
@@ -60,7 +61,7 @@ fn size_wrong(row: Row, opcode: usize, options: usize, data: &[u8]) -> bool
     requires { ⌜ row ≡ rowOf opcode ⌝ }
     ensures { λ r. ⌜ r ≡ sizeWrong opcode options (now («data» .entry)) ⌝ }
 {
-    if options / 128 % 2 == 1 {
+    if options / bits::READ % 2 == 1 {
         return data.len() != row.read;
     }
     if row.mark == VARIABLE {
@@ -129,7 +130,7 @@ fn value_fault(row: Row, opcode: usize, options: usize, data: &[u8]) -> usize
     requires { ⌜ row ≡ rowOf opcode ⌝ }
     ensures { λ r. ⌜ r ≡ valueFault opcode options (now («data» .entry)) ⌝ }
 {
-    if options / 128 % 2 == 1 {
+    if options / bits::READ % 2 == 1 {
         return fault(opcode, true, row.read, data);
     }
     if row.mark == VARIABLE {
@@ -199,5 +200,7 @@ fn smooth_fault(data: &[u8]) -> usize
 fn named_only(opcode: usize, options: usize, data: &[u8]) -> bool
     ensures { λ r. ⌜ r ≡ namedOnly opcode options (now («data» .entry)) ⌝ }
 {
-    (options / 128 % 2 == 0) & ((opcode == 0x39) | (opcode == 0x2B)) & (wire::byte(data, 0) == 1)
+    (options / bits::READ % 2 == 0)
+        & ((opcode == 0x39) | (opcode == 0x2B))
+        & (wire::byte(data, 0) == 1)
 }

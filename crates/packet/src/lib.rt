@@ -1,4 +1,5 @@
 // Packets: reading one for the front end, making one for the host.
+use opcode::bits;
 use wire::Refusal;
 ghost use mathlib.Core.Path.{_≡_};
 ghost use mathlib.Core.Bool.{cond};
@@ -81,7 +82,7 @@ impl Cursor {
             × (r .value < 65536) × (r .next .at ≡ self .at + 1 + twoByte header) ⌝ }
     {
         let at = self.at;
-        if header / 8 % 2 == 1 {
+        if header / bits::TWO_BYTE % 2 == 1 {
             return Step {
                 value: wire::word(packet, at),
                 next: Cursor { at: at + 2 },
@@ -100,7 +101,7 @@ impl Cursor {
             × (r .next .at ≡ self .at + 2 * hasLength header) ⌝ }
     {
         let at = self.at;
-        if header / 16 % 2 == 1 {
+        if header / bits::LENGTH % 2 == 1 {
             return Step {
                 value: wire::word(packet, at),
                 next: Cursor { at: at + 2 },
@@ -175,7 +176,7 @@ fn broken(number: u8) -> Frame
 fn fields(header: usize) -> usize
     ensures { λ r. ⌜ r ≡ «fields» header ⌝ }
 {
-    2 + header / 8 % 2 + 2 * (header / 16 % 2) + header / 32 % 2
+    2 + header / bits::TWO_BYTE % 2 + 2 * (header / bits::LENGTH % 2) + header / bits::SUM % 2
 }
 
 // How many bytes a packet at the start of these has by its header and its length field: any bytes, and there may be fewer.
@@ -183,10 +184,10 @@ pub fn announced(bytes: &[u8]) -> usize
     ensures { λ r. ⌜ (r ≡ «announced» (now (bytes .entry))) × (2 ≤ r) × (r ≤ 65541) ⌝ }
 {
     let header = wire::byte(bytes, 0);
-    if header / 16 % 2 == 0 {
+    if header / bits::LENGTH % 2 == 0 {
         return fields(header);
     }
-    fields(header) + wire::word(bytes, 2 + header / 8 % 2)
+    fields(header) + wire::word(bytes, 2 + header / bits::TWO_BYTE % 2)
 }
 
 // Steps through header, opcode and length, and tests the frame: refusals 2 to 6.
@@ -227,7 +228,7 @@ fn sum_differs(packet: &[u8], header: usize) -> bool
     requires { ⌜ (header ≡ byteAt (now packet) 0) × (1 < length (now packet)) ⌝ }
     ensures { λ r. ⌜ r ≡ checksumDiffers (now (packet .entry)) ⌝ }
 {
-    if header / 32 % 2 == 0 {
+    if header / bits::SUM % 2 == 0 {
         return false;
     }
     wire::byte(packet, packet.len() - 1) != wire::checksum(packet, packet.len() - 1)
@@ -269,10 +270,10 @@ fn write_packet(buffer: &mut [u8], opcode: usize, o: usize, data: &[u8]) -> usiz
 {
     wire::put_byte(buffer, 0, 4 + o);
     wire::put_byte(buffer, 1, opcode);
-    let at = put_high(buffer, 2, o / 8 % 2);
-    let place = put_length(buffer, at, o / 16 % 2, data.len());
+    let at = put_high(buffer, 2, o / bits::TWO_BYTE % 2);
+    let place = put_length(buffer, at, o / bits::LENGTH % 2, data.len());
     wire::copy(buffer, place, data, 0, data.len());
-    put_sum(buffer, place + data.len(), o / 32 % 2)
+    put_sum(buffer, place + data.len(), o / bits::SUM % 2)
 }
 
 // The high byte of a two-byte opcode, if there is to be one. Answers the next place, as the two below do.
