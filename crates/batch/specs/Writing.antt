@@ -12,7 +12,7 @@ use Rattle.upload.specs.Parts.{part}
 abbrev pub Lies : ℕ → List ℕ → ℕ → Type 0
 Lies each map m = (each * m ≤ length map) × (length map % each ≡ 0)
 
--- Rule 6.1: a packet of these points of such a map has room in a buffer behind what is filled.
+-- Rules 6.1 and 6.6: a packet of these points of such a map has room in a buffer behind what is filled.
 abbrev pub PacketFits : ℕ → List ℕ → ℕ → List ℕ → ℕ → ℕ → Type 0
 PacketFits each buffer filled map start count =
     (filled + (6 + 4 * count) ≤ length buffer)

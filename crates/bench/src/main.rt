@@ -165,7 +165,7 @@ fn present(bytes: &[u8]) {
         size,
     } = r
     else {
-        print_number(b"\n  refused ", number_of(r));
+        print_number(b"\n  refused ", r.refusal().number as u64);
         io::write_all(1, b"\n");
         return;
     };
@@ -179,18 +179,6 @@ fn present(bytes: &[u8]) {
     io::write_all(1, b":");
     show::bytes(&buffer, made.size);
     io::write_all(1, b"\n");
-}
-
-fn number_of(r: Reading) -> u64 {
-    match r {
-        Reading::Refused(why) => why.number as u64,
-        Reading::Command {
-            opcode: _,
-            options: _,
-            at: _,
-            size: _,
-        } => 0,
-    }
 }
 
 fn print_number(text: &[u8], n: u64) {

@@ -1,4 +1,4 @@
--- Block bytes without a meaning survive every packet: whatever a write copies into the block ends where the settings end, at 865.
+-- Block bytes without a meaning survive every packet: whatever a write copies into the block ends where the settings end.
 use Prim.Native.Nat.{ℕ, _-_}
 use mathlib.Core.Path.{_≡_, _∙_}
 use mathlib.Core.List.{List, [], _∷_}

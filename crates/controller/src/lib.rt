@@ -31,8 +31,15 @@ pub const GAINS_SIZE: usize = 6048;
 
 pub const COLOUR_GAINS: usize = 2016;
 
-// The fewest bytes of a reply buffer.
-pub const REPLY_ROOM: usize = 512;
+// What stands in front of a write's points, its start; and of a write's gains: compression, colour, count, start.
+pub const POINTS_HEAD: usize = 2;
+
+pub const GAINS_HEAD: usize = 6;
+
+// The fewest bytes of a reply buffer; and a gain of 1.0, which every gain is after reset.
+pub const REPLY_ROOM: usize = wire::LONGEST;
+
+pub const GAIN_ONE: u16 = 4096;
 
 // What is to be done with a packet, by its bytes and the settings alone: the command, or refusal 2 to 12.
 pub fn decide(packet: &[u8], block: &[u8]) -> Reading
@@ -54,7 +61,7 @@ pub fn decide(packet: &[u8], block: &[u8]) -> Reading
         &packet[at..at + size],
         block,
     ) {
-        return Reading::Refused(Refusal { number: 12 });
+        return Reading::Refused(Refusal::by(12));
     }
     r
 }
@@ -131,7 +138,8 @@ pub fn gains_named(reads: bool, data: &[u8]) -> Gains
 
 fn gains_at(colour: usize, start: usize, count: usize) -> Gains
     requires { ⌜ (colour < 256) × (start < 65536) ⌝ }
-    ensures { λ r. ⌜ (r .colour ≡ colour) × (r .start ≡ start) × (r .count ≡ count) × (r .place ≡ colourPlace colour start) ⌝ }
+    ensures { λ r. ⌜ (r .colour ≡ colour) × (r .start ≡ start) × (r .count ≡ count)
+        × (r .place ≡ colourPlace colour start) ⌝ }
 {
     if colour == 0 {
         return Gains {
@@ -158,6 +166,7 @@ pub fn acknowledge(packet: &[u8], number: usize, reply: &mut [u8]) -> usize
         return 0;
     }
     let header = wire::byte(packet, 0);
+    // Neither a reply is requested nor a read: bits 6 and 7.
     if header / bits::REPLY % 4 == 0 {
         return 0;
     }
@@ -177,7 +186,8 @@ pub struct Outcome {
 pub fn refuse(decision: Reading, packet: &[u8], reply: &mut [u8]) -> Outcome
     requires { ⌜ replyRoom ≤ length (now reply) ⌝ }
     ensures { λ r. ⌜ (r .status ≡ answer decision .number)
-        × Overwrites (r .size) (emptyReply (answer decision .number) (now (packet .entry))) (now (reply .entry)) (now (reply .exit)) ⌝ }
+        × Overwrites (r .size) (emptyReply (answer decision .number) (now (packet .entry))) (now (reply .entry))
+        (now (reply .exit)) ⌝ }
 {
     let number = decision.refusal().number;
     let size = acknowledge(packet, number as usize, reply);
@@ -189,7 +199,8 @@ pub fn refuse(decision: Reading, packet: &[u8], reply: &mut [u8]) -> Outcome
 
 // The block after an accepted write: of 2Bh and 34h, which store in tables, it is as it was.
 pub fn store(block: &mut [u8], opcode: usize, options: usize, data: &[u8])
-    requires { ⌜ (length (now block) ≡ blockSize) × (isRead options ≡ 0) × (first (judgement opcode options (now «data»)) ≡ 0) ⌝ }
+    requires { ⌜ (length (now block) ≡ blockSize) × (isRead options ≡ 0)
+        × (first (judgement opcode options (now «data»)) ≡ 0) ⌝ }
     ensures { λ _. ⌜ now (block .exit) ≡ blockAfter opcode (now («data» .entry)) (now (block .entry)) ⌝ }
 {
     match opcode {
@@ -213,7 +224,8 @@ pub fn store(block: &mut [u8], opcode: usize, options: usize, data: &[u8])
 
 // 35h: mode 0 sets mode, columns and rows; mode 1 the lists too, and the shape that goes with them.
 fn store_shape(block: &mut [u8], data: &[u8])
-    requires { ⌜ (length (now block) ≡ blockSize) × (length (now «data») ≡ cond (eqb (byteAt (now «data») 0) 1) (1 + listsSize) shapeHead) ⌝ }
+    requires { ⌜ (length (now block) ≡ blockSize)
+        × (length (now «data») ≡ cond (eqb (byteAt (now «data») 0) 1) (1 + listsSize) shapeHead) ⌝ }
     ensures { λ _. ⌜ now (block .exit) ≡ writeShape (now («data» .entry)) (now (block .entry)) ⌝ }
 {
     if wire::byte(data, 0) == 1 {
@@ -253,9 +265,11 @@ fn copy_within(block: &mut [u8], at: usize, from: usize, n: usize)
 
 // The data that a read of a setting returns, over the start of the buffer. Answers its size.
 pub fn fetch(out: &mut [u8], opcode: usize, options: usize, data: &[u8], block: &[u8]) -> usize
-    requires { ⌜ (dataRoom ≤ length (now out)) × (length (now block) ≡ blockSize) × (settingsRight (now block) ≡ true) × (isRead options ≡ 1)
+    requires { ⌜ (dataRoom ≤ length (now out)) × (length (now block) ≡ blockSize)
+        × (settingsRight (now block) ≡ true) × (isRead options ≡ 1)
         × (first (judgement opcode options (now «data»)) ≡ 0) ⌝ }
-    ensures { λ r. ⌜ Overwrites r (blockBack opcode (now («data» .entry)) (now (block .entry))) (now (out .entry)) (now (out .exit)) ⌝ }
+    ensures { λ r. ⌜ Overwrites r (blockBack opcode (now («data» .entry)) (now (block .entry)))
+        (now (out .entry)) (now (out .exit)) ⌝ }
 {
     match opcode {
         0x35 => fetch_shape(out, block),

@@ -1,8 +1,11 @@
 // The front end on tables of 16-bit numbers, for Rattle callers.
 use controller::COLOUR_GAINS;
+use controller::GAIN_ONE;
+use controller::GAINS_HEAD;
 use controller::GAINS_SIZE;
 use controller::MAP_SIZE;
 use controller::Outcome;
+use controller::POINTS_HEAD;
 use controller::REPLY_ROOM;
 use opcode::bits;
 use packet::Reading;
@@ -32,7 +35,7 @@ pub fn reset(block: &mut [u8], staged: &mut [u16], live: &mut [u16], gains: &mut
     settings::reset_block(block);
     tables::fill_words(staged, 0);
     tables::fill_words(live, 0);
-    tables::fill_words(gains, 4096);
+    tables::fill_words(gains, GAIN_ONE);
     0
 }
 
@@ -86,7 +89,8 @@ fn decided(
     ensures { λ r. ⌜ outcome (r .status) (r .size)
         (state (now (block .exit)) (now (staged .exit)) (now (live .exit)) (now (gains .exit))) (now (reply .exit))
         ≡ step (now (packet .entry))
-        (state (now (block .entry)) (now (staged .entry)) (now (live .entry)) (now (gains .entry))) (now (reply .entry)) ⌝ }
+        (state (now (block .entry)) (now (staged .entry)) (now (live .entry)) (now (gains .entry)))
+        (now (reply .entry)) ⌝ }
 {
     let decision = controller::decide(packet, block);
     let Reading::Command {
@@ -130,7 +134,8 @@ fn perform(
     ensures { λ r. ⌜ outcome (r .status) (r .size)
         (state (now (block .exit)) (now (staged .exit)) (now (live .exit)) (now (gains .exit))) (now (reply .exit))
         ≡ step (now (packet .entry))
-        (state (now (block .entry)) (now (staged .entry)) (now (live .entry)) (now (gains .entry))) (now (reply .entry)) ⌝ }
+        (state (now (block .entry)) (now (staged .entry)) (now (live .entry)) (now (gains .entry)))
+        (now (reply .entry)) ⌝ }
 {
     let data = &packet[at..at + size];
     if options / bits::READ % 2 == 1 {
@@ -145,7 +150,8 @@ fn perform(
 // Refusal 1: lengths, and then every setting.
 fn stopped(block: &[u8], staged: &[u16], live: &[u16], gains: &[u16], reply: &[u8]) -> bool
     ensures { λ r. ⌜ r
-        ≡ stoppedBy (state (now (block .entry)) (now (staged .entry)) (now (live .entry)) (now (gains .entry))) (now (reply .entry)) ⌝ }
+        ≡ stoppedBy (state (now (block .entry)) (now (staged .entry)) (now (live .entry)) (now (gains .entry)))
+        (now (reply .entry)) ⌝ }
 {
     if !lengths_right(block, staged, live, gains) {
         return true;
@@ -166,9 +172,11 @@ fn answer_read(
     gains: &[u16],
     reply: &mut [u8],
 ) -> usize
-    requires { ⌜ ReadGranted 1 opcode options (now «data») (now block) (now staged) (now gains) × (replyRoom ≤ length (now reply)) ⌝ }
+    requires { ⌜ ReadGranted 1 opcode options (now «data») (now block) (now staged) (now gains)
+        × (replyRoom ≤ length (now reply)) ⌝ }
     ensures { λ r. ⌜ Overwrites r
-        (readReply opcode options (now («data» .entry)) (state (now (block .entry)) (now (staged .entry)) [] (now (gains .entry))))
+        (readReply opcode options (now («data» .entry))
+        (state (now (block .entry)) (now (staged .entry)) [] (now (gains .entry))))
         (now (reply .entry)) (now (reply .exit)) ⌝ }
 {
     let n = fetch(&mut reply[3..], opcode, options, data, block, staged, gains);
@@ -185,7 +193,8 @@ fn fetch(
     staged: &[u16],
     gains: &[u16],
 ) -> usize
-    requires { ⌜ ReadGranted 1 opcode options (now «data») (now block) (now staged) (now gains) × (dataRoom ≤ length (now out)) ⌝ }
+    requires { ⌜ ReadGranted 1 opcode options (now «data») (now block) (now staged) (now gains)
+        × (dataRoom ≤ length (now out)) ⌝ }
     ensures { λ r. ⌜ Overwrites r
         (dataBack opcode (now («data» .entry)) (state (now (block .entry)) (now (staged .entry)) [] (now (gains .entry))))
         (now (out .entry)) (now (out .exit)) ⌝ }
@@ -202,7 +211,8 @@ fn fetch(
 // 34h: the staged points that the packet names.
 fn fetch_points(out: &mut [u8], data: &[u8], staged: &[u16]) -> usize
     requires { ⌜ PointsRead (now «data») × (length (now staged) ≡ mapSize) × (dataRoom ≤ length (now out)) ⌝ }
-    ensures { λ r. ⌜ Overwrites r (readPoints (now («data» .entry)) (now (staged .entry))) (now (out .entry)) (now (out .exit)) ⌝ }
+    ensures { λ r. ⌜ Overwrites r (readPoints (now («data» .entry)) (now (staged .entry))) (now (out .entry))
+        (now (out .exit)) ⌝ }
 {
     let named = controller::points_named(true, data);
     tables::words_out(out, staged, 2 * named.start, 2 * named.count);
@@ -212,7 +222,8 @@ fn fetch_points(out: &mut [u8], data: &[u8], staged: &[u16]) -> usize
 // 2Bh: the gains that the packet names.
 fn fetch_gains(out: &mut [u8], data: &[u8], gains: &[u16]) -> usize
     requires { ⌜ GainsRead (now «data») × (length (now gains) ≡ gainsSize) × (dataRoom ≤ length (now out)) ⌝ }
-    ensures { λ r. ⌜ Overwrites r (readGains (now («data» .entry)) (now (gains .entry))) (now (out .entry)) (now (out .exit)) ⌝ }
+    ensures { λ r. ⌜ Overwrites r (readGains (now («data» .entry)) (now (gains .entry))) (now (out .entry))
+        (now (out .exit)) ⌝ }
 {
     let named = controller::gains_named(true, data);
     tables::words_out(out, gains, named.place, named.count);
@@ -243,7 +254,8 @@ fn store(
 // 36h with 1: all staged points become live.
 fn apply(opcode: usize, data: &[u8], staged: &[u16], live: &mut [u16])
     requires { ⌜ length (now live) ≡ length (now staged) ⌝ }
-    ensures { λ _. ⌜ now (live .exit) ≡ liveAfter opcode (now («data» .entry)) (now (staged .entry)) (now (live .entry)) ⌝ }
+    ensures { λ _. ⌜ now (live .exit) ≡ liveAfter opcode (now («data» .entry)) (now (staged .entry))
+        (now (live .entry)) ⌝ }
 {
     if opcode != 0x36 {
         return;
@@ -263,7 +275,7 @@ fn store_points(opcode: usize, data: &[u8], staged: &mut [u16])
         return;
     }
     let named = controller::points_named(false, data);
-    tables::words_in(staged, 2 * named.start, data, 2, 2 * named.count);
+    tables::words_in(staged, 2 * named.start, data, POINTS_HEAD, 2 * named.count);
 }
 
 // 2Bh: the words of the packet, into one third of the gains or, for colour 0, into all three.
@@ -275,10 +287,22 @@ fn store_gains(opcode: usize, data: &[u8], gains: &mut [u16])
         return;
     }
     let named = controller::gains_named(false, data);
-    tables::words_in(gains, named.place, data, 6, named.count);
+    tables::words_in(gains, named.place, data, GAINS_HEAD, named.count);
     if named.colour != 0 {
         return;
     }
-    tables::words_in(gains, COLOUR_GAINS + named.place, data, 6, named.count);
-    tables::words_in(gains, 2 * COLOUR_GAINS + named.place, data, 6, named.count);
+    tables::words_in(
+        gains,
+        COLOUR_GAINS + named.place,
+        data,
+        GAINS_HEAD,
+        named.count,
+    );
+    tables::words_in(
+        gains,
+        2 * COLOUR_GAINS + named.place,
+        data,
+        GAINS_HEAD,
+        named.count,
+    );
 }

@@ -1,8 +1,10 @@
 // The front end on tables lent as bytes, low byte first, where they lie: what the C entries stand on.
 use controller::COLOUR_GAINS;
+use controller::GAINS_HEAD;
 use controller::GAINS_SIZE;
 use controller::MAP_SIZE;
 use controller::Outcome;
+use controller::POINTS_HEAD;
 use controller::REPLY_ROOM;
 use opcode::bits;
 use packet::Reading;
@@ -29,9 +31,12 @@ const GAINS_BYTES: usize = 2 * GAINS_SIZE;
 
 const COLOUR_BYTES: usize = 2 * COLOUR_GAINS;
 
+const GAIN: usize = controller::GAIN_ONE as usize;
+
 // Puts the block and all tables as they are after reset. Answers 0, or 1 for a wrong length, when nothing is changed.
 pub fn reset(block: &mut [u8], staged: &mut [u8], live: &mut [u8], gains: &mut [u8]) -> u8
-    ensures { λ r. ⌜ ResetsBytes (lent (now (block .entry)) (now (staged .entry)) (now (live .entry)) (now (gains .entry)))
+    ensures { λ r. ⌜ ResetsBytes
+        (lent (now (block .entry)) (now (staged .entry)) (now (live .entry)) (now (gains .entry)))
         (lentReset r (lent (now (block .exit)) (now (staged .exit)) (now (live .exit)) (now (gains .exit)))) ⌝ }
 {
     if !lengths_right(block, staged, live, gains) {
@@ -40,7 +45,7 @@ pub fn reset(block: &mut [u8], staged: &mut [u8], live: &mut [u8], gains: &mut [
     settings::reset_block(block);
     tables::fill_bytes(staged, 0);
     tables::fill_bytes(live, 0);
-    tables::fill_bytes(gains, 4096);
+    tables::fill_bytes(gains, GAIN);
     0
 }
 
@@ -95,7 +100,8 @@ fn decided(
     ensures { λ r. ⌜ lentOut (r .status) (r .size)
         (lent (now (block .exit)) (now (staged .exit)) (now (live .exit)) (now (gains .exit))) (now (reply .exit))
         ≡ stepBytes (now (packet .entry))
-        (lent (now (block .entry)) (now (staged .entry)) (now (live .entry)) (now (gains .entry))) (now (reply .entry)) ⌝ }
+        (lent (now (block .entry)) (now (staged .entry)) (now (live .entry)) (now (gains .entry)))
+        (now (reply .entry)) ⌝ }
 {
     let decision = controller::decide(packet, block);
     let Reading::Command {
@@ -140,7 +146,8 @@ fn perform(
     ensures { λ r. ⌜ lentOut (r .status) (r .size)
         (lent (now (block .exit)) (now (staged .exit)) (now (live .exit)) (now (gains .exit))) (now (reply .exit))
         ≡ stepBytes (now (packet .entry))
-        (lent (now (block .entry)) (now (staged .entry)) (now (live .entry)) (now (gains .entry))) (now (reply .entry)) ⌝ }
+        (lent (now (block .entry)) (now (staged .entry)) (now (live .entry)) (now (gains .entry)))
+        (now (reply .entry)) ⌝ }
 {
     let data = &packet[at..at + size];
     if options / bits::READ % 2 == 1 {
@@ -155,7 +162,8 @@ fn perform(
 // Refusal 1: lengths, and then every setting.
 fn stopped(block: &[u8], staged: &[u8], live: &[u8], gains: &[u8], reply: &[u8]) -> bool
     ensures { λ r. ⌜ r
-        ≡ stoppedBytes (lent (now (block .entry)) (now (staged .entry)) (now (live .entry)) (now (gains .entry))) (now (reply .entry)) ⌝ }
+        ≡ stoppedBytes
+        (lent (now (block .entry)) (now (staged .entry)) (now (live .entry)) (now (gains .entry))) (now (reply .entry)) ⌝ }
 {
     if !lengths_right(block, staged, live, gains) {
         return true;
@@ -176,7 +184,8 @@ fn answer_read(
     gains: &[u8],
     reply: &mut [u8],
 ) -> usize
-    requires { ⌜ ReadGranted 2 opcode options (now «data») (now block) (now staged) (now gains) × (replyRoom ≤ length (now reply)) ⌝ }
+    requires { ⌜ ReadGranted 2 opcode options (now «data») (now block) (now staged) (now gains)
+        × (replyRoom ≤ length (now reply)) ⌝ }
     ensures { λ r. ⌜ Overwrites r
         (readReply opcode options (now («data» .entry))
         (stateIn (lent (now (block .entry)) (now (staged .entry)) [] (now (gains .entry)))))
@@ -196,9 +205,11 @@ fn fetch(
     staged: &[u8],
     gains: &[u8],
 ) -> usize
-    requires { ⌜ ReadGranted 2 opcode options (now «data») (now block) (now staged) (now gains) × (dataRoom ≤ length (now out)) ⌝ }
+    requires { ⌜ ReadGranted 2 opcode options (now «data») (now block) (now staged) (now gains)
+        × (dataRoom ≤ length (now out)) ⌝ }
     ensures { λ r. ⌜ Overwrites r
-        (dataBack opcode (now («data» .entry)) (stateIn (lent (now (block .entry)) (now (staged .entry)) [] (now (gains .entry)))))
+        (dataBack opcode (now («data» .entry))
+        (stateIn (lent (now (block .entry)) (now (staged .entry)) [] (now (gains .entry)))))
         (now (out .entry)) (now (out .exit)) ⌝ }
 {
     if opcode == 0x34 {
@@ -213,7 +224,8 @@ fn fetch(
 // 34h: the staged points that the packet names.
 fn fetch_points(out: &mut [u8], data: &[u8], staged: &[u8]) -> usize
     requires { ⌜ PointsRead (now «data») × (length (now staged) ≡ mapBytes) × (dataRoom ≤ length (now out)) ⌝ }
-    ensures { λ r. ⌜ Overwrites r (readPoints (now («data» .entry)) (words (now (staged .entry)))) (now (out .entry)) (now (out .exit)) ⌝ }
+    ensures { λ r. ⌜ Overwrites r (readPoints (now («data» .entry)) (words (now (staged .entry))))
+        (now (out .entry)) (now (out .exit)) ⌝ }
 {
     let named = controller::points_named(true, data);
     wire::copy(out, 0, staged, 4 * named.start, 4 * named.count);
@@ -223,7 +235,8 @@ fn fetch_points(out: &mut [u8], data: &[u8], staged: &[u8]) -> usize
 // 2Bh: the gains that the packet names.
 fn fetch_gains(out: &mut [u8], data: &[u8], gains: &[u8]) -> usize
     requires { ⌜ GainsRead (now «data») × (length (now gains) ≡ gainsBytes) × (dataRoom ≤ length (now out)) ⌝ }
-    ensures { λ r. ⌜ Overwrites r (readGains (now («data» .entry)) (words (now (gains .entry)))) (now (out .entry)) (now (out .exit)) ⌝ }
+    ensures { λ r. ⌜ Overwrites r (readGains (now («data» .entry)) (words (now (gains .entry))))
+        (now (out .entry)) (now (out .exit)) ⌝ }
 {
     let named = controller::gains_named(true, data);
     wire::copy(out, 0, gains, 2 * named.place, 2 * named.count);
@@ -269,13 +282,14 @@ fn apply(opcode: usize, data: &[u8], staged: &[u8], live: &mut [u8])
 // 34h: the points of the packet, from its start on.
 fn store_points(opcode: usize, data: &[u8], staged: &mut [u8])
     requires { ⌜ (opcode ≡ 0x34 → PointsWrite (now «data»)) × (length (now staged) ≡ mapBytes) ⌝ }
-    ensures { λ _. ⌜ now (staged .exit) ≡ bytes (stagedAfter opcode (now («data» .entry)) (words (now (staged .entry)))) ⌝ }
+    ensures { λ _. ⌜ now (staged .exit) ≡ bytes (stagedAfter opcode (now («data» .entry))
+        (words (now (staged .entry)))) ⌝ }
 {
     if opcode != 0x34 {
         return;
     }
     let named = controller::points_named(false, data);
-    wire::copy(staged, 4 * named.start, data, 2, 4 * named.count);
+    wire::copy(staged, 4 * named.start, data, POINTS_HEAD, 4 * named.count);
 }
 
 // 2Bh: the words of the packet, into one third of the gains or, for colour 0, into all three.
@@ -289,10 +303,10 @@ fn store_gains(opcode: usize, data: &[u8], gains: &mut [u8])
     let named = controller::gains_named(false, data);
     let place = 2 * named.place;
     let size = 2 * named.count;
-    wire::copy(gains, place, data, 6, size);
+    wire::copy(gains, place, data, GAINS_HEAD, size);
     if named.colour != 0 {
         return;
     }
-    wire::copy(gains, COLOUR_BYTES + place, data, 6, size);
-    wire::copy(gains, 2 * COLOUR_BYTES + place, data, 6, size);
+    wire::copy(gains, COLOUR_BYTES + place, data, GAINS_HEAD, size);
+    wire::copy(gains, 2 * COLOUR_BYTES + place, data, GAINS_HEAD, size);
 }

@@ -5,8 +5,6 @@ use mathlib.Core.List.{List, [], _∷_}
 use lib.ListN.{length}
 use lib.Dec.{eqb, leb, ltb}
 use Rattle.wire.specs.Numbers.{byteAt, wordAt}
-use Rattle.wire.specs.First.{first}
-use Rattle.opcode.specs.declared.Field.{Field}
 use Rattle.opcode.specs.Options.{hasLength, isRead}
 use Rattle.opcode.specs.Fields.{fault, wordsAt, rise, firstLarge}
 use Rattle.opcode.specs.Commands.{commandOf, notCarried, variable}

@@ -127,7 +127,7 @@ fn pin_field(k: usize) -> Field
     ensures { λ r. ⌜ (r ≡ getD (commandOf 0x60 .sets) k r) × (r ≡ getD (commandOf 0x61 .sets) k r) ⌝ }
 {
     match k {
-        0 => byte(0, 87),
+        0 => byte(0, limits::MOST_PIN),
         _ => FLAG,
     }
 }

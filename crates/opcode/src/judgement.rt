@@ -2,6 +2,8 @@
 use super::Row;
 use super::bits;
 use super::fields::fault;
+use super::limits::MOST_COLUMNS;
+use super::limits::MOST_ROWS;
 use super::lists::first_large;
 use super::lists::rise;
 use super::opcodes::NOT_CARRIED;
@@ -16,28 +18,41 @@ ghost use Rattle.opcode.specs.Judgement.{«unknown», lacksLength, named
 ghost use Rattle.opcode.specs.Judgement.{pointsSizeWrong, gainsSizeWrong, controlSizeWrong, smoothSizeWrong};
 ghost use Rattle.opcode.specs.Judgement.{gainsFault, listsFault, controlFault, smoothFault};
 
+// 2Bh: compression, colour, count and start. 35h: mode, columns and rows; or the mode and two lists. 38h: columns and rows.
+const GAINS_HEAD: usize = 6;
+
+const CONTROL_DATA: usize = 5;
+
+const LISTS_DATA: usize = 189;
+
+const COLUMN_LIST: usize = 1;
+
+const ROW_LIST: usize = 125;
+
+const SMOOTH_HEAD: usize = 2;
+
 // Judges a command by its opcode, options (header bits 3 to 7 in place) and data: the first of refusals 7 to 11, 0 for none.
 pub fn judge(opcode: usize, options: usize, data: &[u8]) -> Refusal
     ensures { λ r. ⌜ r .number ≡ first (judgement opcode options (now («data» .entry))) ⌝ }
 {
     let row = row_at(opcode);
     if unknown(row, opcode) {
-        return Refusal { number: 7 };
+        return Refusal::by(7);
     }
     if lacks_length(row, opcode, options) {
-        return Refusal { number: 8 };
+        return Refusal::by(8);
     }
     if size_wrong(row, opcode, options, data) {
-        return Refusal { number: 9 };
+        return Refusal::by(9);
     }
     let at = value_fault(row, opcode, options, data);
     if at < data.len() {
-        return Refusal { number: 10 };
+        return Refusal::by(10);
     }
     if named_only(opcode, options, data) {
-        return Refusal { number: 11 };
+        return Refusal::by(11);
     }
-    Refusal { number: 0 }
+    Refusal::by(0)
 }
 
 // 7: the opcode is not carried.
@@ -92,7 +107,7 @@ fn points_size_wrong(data: &[u8]) -> bool
 fn gains_size_wrong(data: &[u8]) -> bool
     ensures { λ r. ⌜ r ≡ gainsSizeWrong (now («data» .entry)) ⌝ }
 {
-    !((6 <= data.len()) & (data.len() == 6 + 2 * wire::word(data, 2)))
+    !((GAINS_HEAD <= data.len()) & (data.len() == GAINS_HEAD + 2 * wire::word(data, 2)))
 }
 
 // 35h: the mode, then two counts or two lists; with a mode above 1 no size is wrong.
@@ -104,10 +119,10 @@ fn control_size_wrong(data: &[u8]) -> bool
     }
     let mode = wire::byte(data, 0);
     if mode == 0 {
-        return data.len() != 5;
+        return data.len() != CONTROL_DATA;
     }
     if mode == 1 {
-        return data.len() != 189;
+        return data.len() != LISTS_DATA;
     }
     false
 }
@@ -116,13 +131,13 @@ fn control_size_wrong(data: &[u8]) -> bool
 fn smooth_size_wrong(data: &[u8]) -> bool
     ensures { λ r. ⌜ r ≡ smoothSizeWrong (now («data» .entry)) ⌝ }
 {
-    if data.len() < 2 {
+    if data.len() < SMOOTH_HEAD {
         return true;
     }
-    if fault(0x38, false, 2, data) < 2 {
+    if fault(0x38, false, SMOOTH_HEAD, data) < SMOOTH_HEAD {
         return false;
     }
-    data.len() != 2 + 4 * (wire::byte(data, 0) * wire::byte(data, 1))
+    data.len() != SMOOTH_HEAD + 4 * (wire::byte(data, 0) * wire::byte(data, 1))
 }
 
 // 10: the place of the first value at fault, the data's length or more for none.
@@ -154,14 +169,14 @@ fn variable_fault(opcode: usize, data: &[u8]) -> usize
 fn gains_fault(data: &[u8]) -> usize
     ensures { λ r. ⌜ r ≡ gainsFault (now («data» .entry)) ⌝ }
 {
-    let head = fault(0x2B, false, 6, data);
-    if head < 6 {
+    let head = fault(0x2B, false, GAINS_HEAD, data);
+    if head < GAINS_HEAD {
         return head;
     }
     if wire::byte(data, 0) == 1 {
         return data.len();
     }
-    6 + 2 * first_large(data, 6, wire::word(data, 2))
+    GAINS_HEAD + 2 * first_large(data, GAINS_HEAD, wire::word(data, 2))
 }
 
 // 35h: in mode 1 the lists, else the fields.
@@ -171,26 +186,26 @@ fn control_fault(data: &[u8]) -> usize
     if wire::byte(data, 0) == 1 {
         return lists_fault(data);
     }
-    fault(0x35, false, 5, data)
+    fault(0x35, false, CONTROL_DATA, data)
 }
 
 // 35h in mode 1: 62 and then 32 numbers, each list rising.
 fn lists_fault(data: &[u8]) -> usize
     ensures { λ r. ⌜ r ≡ listsFault (now («data» .entry)) ⌝ }
 {
-    let columns = rise(data, 1, 62);
-    if columns < 62 {
-        return 1 + 2 * columns;
+    let columns = rise(data, COLUMN_LIST, MOST_COLUMNS);
+    if columns < MOST_COLUMNS {
+        return COLUMN_LIST + 2 * columns;
     }
-    125 + 2 * rise(data, 125, 32)
+    ROW_LIST + 2 * rise(data, ROW_LIST, MOST_ROWS)
 }
 
 // 38h: its two counts.
 fn smooth_fault(data: &[u8]) -> usize
     ensures { λ r. ⌜ r ≡ smoothFault (now («data» .entry)) ⌝ }
 {
-    let head = fault(0x38, false, 2, data);
-    if head < 2 {
+    let head = fault(0x38, false, SMOOTH_HEAD, data);
+    if head < SMOOTH_HEAD {
         return head;
     }
     data.len()

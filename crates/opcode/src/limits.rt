@@ -1,9 +1,12 @@
-// The ends of ranges that stored settings share with the fields of packets (rules 5.1, 5.5 and 5.7). A range from 0 has its end alone.
+// The ends of ranges (rules 5.1, 5.5, 5.7 and 5.8), which stored settings share with the fields of packets. A range from 0
+// has its end alone.
 pub const MOST_DISPLAY: usize = 4;
 
 pub const MOST_COLOUR: usize = 8;
 
 pub const MOST_FLIP: usize = 3;
+
+pub const MOST_GAIN: usize = 8191;
 
 pub const LEAST_SHAPE: usize = 2;
 
@@ -14,6 +17,8 @@ pub const MOST_ROWS: usize = 32;
 pub const LEAST_SMOOTH: usize = 3;
 
 pub const MOST_SMOOTH: usize = 5;
+
+pub const MOST_PIN: usize = 87;
 
 pub const LEAST_FREQUENCY: usize = 20;
 

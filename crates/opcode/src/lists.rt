@@ -1,4 +1,5 @@
 // Lists of 16-bit numbers in a command's data: the index of the first at fault.
+use super::limits::MOST_GAIN;
 ghost use mathlib.Core.Path.{_≡_};
 ghost use Prim.Native.Nat.{_≤_};
 ghost use Rattle.opcode.specs.Fields.{wordsAt, «rise», firstLarge};
@@ -24,14 +25,14 @@ pub(crate) fn rise(s: &[u8], at: usize, count: usize) -> usize
     count
 }
 
-// The index of the first of count gains from a place on that is above 8191, count for none.
+// The index of the first of count gains from a place on that is above the highest, count for none.
 pub(crate) fn first_large(s: &[u8], at: usize, count: usize) -> usize
     requires { ⌜ (at ≤ 65536) × (count ≤ 65536) ⌝ }
     ensures { λ r. ⌜ (r ≡ firstLarge (wordsAt (now (s .entry)) at count)) × (r ≤ count) ⌝ }
 {
     let mut i = 0;
     while i < count {
-        if 8191 < wire::word(s, at + 2 * i) {
+        if MOST_GAIN < wire::word(s, at + 2 * i) {
             return i;
         }
         i += 1;

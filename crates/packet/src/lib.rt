@@ -1,5 +1,6 @@
 // Packets: reading one for the front end, making one for the host.
 use opcode::bits;
+use wire::LONGEST;
 use wire::Refusal;
 ghost use mathlib.Core.Path.{_≡_};
 ghost use mathlib.Core.Bool.{cond};
@@ -41,7 +42,7 @@ impl Reading {
                 options: _,
                 at: _,
                 size: _,
-            } => Refusal { number: 0 },
+            } => Refusal::by(0),
         }
     }
 }
@@ -66,7 +67,8 @@ impl Cursor {
     // The header byte, 0 for an empty packet.
     fn header(self, packet: &[u8]) -> Step
         requires { ⌜ self .at ≤ 512 ⌝ }
-        ensures { λ r. ⌜ (r .value ≡ byteAt (now (packet .entry)) (self .at)) × (r .value < 256) × (r .next .at ≡ self .at + 1) ⌝ }
+        ensures { λ r. ⌜ (r .value ≡ byteAt (now (packet .entry)) (self .at)) × (r .value < 256)
+            × (r .next .at ≡ self .at + 1) ⌝ }
     {
         let at = self.at;
         Step {
@@ -78,7 +80,8 @@ impl Cursor {
     // One byte, or two if the header says so.
     fn opcode(self, packet: &[u8], header: usize) -> Step
         requires { ⌜ self .at ≤ 512 ⌝ }
-        ensures { λ r. ⌜ (r .value ≡ byteAt (now (packet .entry)) (self .at) + 256 * (twoByte header * byteAt (now (packet .entry)) (self .at + 1)))
+        ensures { λ r. ⌜ (r .value ≡ byteAt (now (packet .entry)) (self .at) + 256 * (twoByte header * byteAt
+            (now (packet .entry)) (self .at + 1)))
             × (r .value < 65536) × (r .next .at ≡ self .at + 1 + twoByte header) ⌝ }
     {
         let at = self.at;
@@ -98,7 +101,7 @@ impl Cursor {
     fn length(self, packet: &[u8], header: usize, there: usize) -> Step
         requires { ⌜ self .at ≤ 512 ⌝ }
         ensures { λ r. ⌜ (r .value ≡ cond (eqb (hasLength header) 1) (wordAt (now (packet .entry)) (self .at)) there)
-            × (r .next .at ≡ self .at + 2 * hasLength header) ⌝ }
+            × (r .next .at ≡ self .at + 2 * hasLength header) × (there < 65536 → r .value < 65536) ⌝ }
     {
         let at = self.at;
         if header / bits::LENGTH % 2 == 1 {
@@ -162,14 +165,14 @@ fn refused(frame: Frame) -> Reading
             options: _,
             at: _,
             size: _,
-        } => Reading::Refused(Refusal { number: 0 }),
+        } => Reading::Refused(Refusal::by(0)),
     }
 }
 
 fn broken(number: u8) -> Frame
     ensures { λ r. ⌜ frameAnswer r ≡ refusedBy number ⌝ }
 {
-    Frame::Broken(Refusal { number })
+    Frame::Broken(Refusal::by(number))
 }
 
 // The bytes that a header, or options in place, announce besides data.
@@ -183,11 +186,11 @@ fn fields(header: usize) -> usize
 pub fn announced(bytes: &[u8]) -> usize
     ensures { λ r. ⌜ (r ≡ «announced» (now (bytes .entry))) × (2 ≤ r) × (r ≤ 65541) ⌝ }
 {
-    let header = wire::byte(bytes, 0);
-    if header / bits::LENGTH % 2 == 0 {
-        return fields(header);
-    }
-    fields(header) + wire::word(bytes, 2 + header / bits::TWO_BYTE % 2)
+    let start = Cursor::new().header(bytes);
+    let header = start.value;
+    let opcode = start.next.opcode(bytes, header);
+    let length = opcode.next.length(bytes, header, 0);
+    fields(header) + length.value
 }
 
 // Steps through header, opcode and length, and tests the frame: refusals 2 to 6.
@@ -196,14 +199,14 @@ fn frame_of(packet: &[u8]) -> Frame
 {
     let start = Cursor::new().header(packet);
     let header = start.value;
-    let announced = fields(header);
-    if packet.len() < announced {
+    let least = fields(header);
+    if packet.len() < least {
         return broken(2);
     }
-    if 512 < packet.len() {
+    if LONGEST < packet.len() {
         return broken(3);
     }
-    let size = packet.len() - announced;
+    let size = packet.len() - least;
     let opcode = start.next.opcode(packet, header);
     let length = opcode.next.length(packet, header, size);
     if length.value != size {
@@ -245,11 +248,11 @@ pub fn make(opcode: u16, options: u8, data: &[u8], buffer: &mut [u8]) -> Made
     ensures { λ r. ⌜ PacketMade opcode options (now («data» .entry)) (now (buffer .entry))
         (record { status = r .status; size = r .size; buffer = now (buffer .exit) }) ⌝ }
 {
-    if buffer.len() < 512 {
+    if buffer.len() < LONGEST {
         return Made { status: 1, size: 0 };
     }
     let o = options as usize / 8 * 8;
-    if 512 - fields(o) < data.len() {
+    if LONGEST - fields(o) < data.len() {
         return Made { status: 3, size: 0 };
     }
     let why = opcode::judge(opcode as usize, o, data);
@@ -291,7 +294,8 @@ fn put_high(buffer: &mut [u8], at: usize, two: usize) -> usize
 // The length field, if there is to be one.
 fn put_length(buffer: &mut [u8], at: usize, has: usize, n: usize) -> usize
     requires { ⌜ (has < 2) × (at + 2 * has ≤ length (now buffer)) × (n < 65536) ⌝ }
-    ensures { λ r. ⌜ (r ≡ at + 2 * has) × (now (buffer .exit) ≡ sets (now (buffer .entry)) at (present has (wordBytes n))) ⌝ }
+    ensures { λ r. ⌜ (r ≡ at + 2 * has) × (now (buffer .exit) ≡ sets
+        (now (buffer .entry)) at (present has (wordBytes n))) ⌝ }
 {
     if has == 1 {
         wire::put_word(buffer, at, n);
@@ -304,7 +308,8 @@ fn put_length(buffer: &mut [u8], at: usize, has: usize, n: usize) -> usize
 fn put_sum(buffer: &mut [u8], at: usize, has: usize) -> usize
     requires { ⌜ (has < 2) × (at + has ≤ length (now buffer)) ⌝ }
     ensures { λ r. ⌜ (r ≡ at + has)
-        × (now (buffer .exit) ≡ sets (now (buffer .entry)) at (present has («checksum» (take at (now (buffer .entry))) ∷ []))) ⌝ }
+        × (now (buffer .exit) ≡ sets (now (buffer .entry)) at (present has («checksum» (take at
+        (now (buffer .entry))) ∷ []))) ⌝ }
 {
     if has == 1 {
         let sum = wire::checksum(buffer, at);

@@ -57,7 +57,7 @@ fn least_at(held: &[u16], wanted: &[u16], room: &[u32], n: usize, i: usize) -> u
 {
     let next = i + 1;
     if differs_at(held, wanted, i) {
-        return 10 + low(room, next, planning::span(n - next));
+        return planning::OPENING + low(room, next, planning::span(n - next));
     }
     room[next]
 }
@@ -98,7 +98,7 @@ fn count_at(room: &[u32], i: usize, most: usize) -> usize
     ensures { λ r. ⌜ r ≡ 1 + more most (drop (i + 1) (now (room .entry))) ⌝ }
 {
     let next = i + 1;
-    let least = room[i] - 10;
+    let least = room[i] - planning::OPENING;
     let mut left = most;
     while 0 < left {
         let c = most - left;

@@ -98,7 +98,7 @@ fn least_at(held: &[u8], wanted: &[u8], room: &[u8], n: usize, i: usize) -> u32
 {
     let next = i + 1;
     if differs_at(held, wanted, i) {
-        return 10 + low(room, next, planning::span(n - next));
+        return planning::OPENING + low(room, next, planning::span(n - next));
     }
     long_at(room, next)
 }
@@ -126,7 +126,7 @@ fn count_at(room: &[u8], i: usize, most: usize) -> usize
     ensures { λ r. ⌜ r ≡ 1 + more most (drop (i + 1) (longs (now (room .entry)))) ⌝ }
 {
     let next = i + 1;
-    let least = long_at(room, i) - 10;
+    let least = long_at(room, i) - planning::OPENING;
     let mut left = most;
     while 0 < left {
         let c = most - left;

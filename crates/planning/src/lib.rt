@@ -9,6 +9,9 @@ ghost use Rattle.planning.specs.Internal.{lengthsIn};
 // The points of a full map.
 pub const MOST_POINTS: u32 = 1984;
 
+// The bytes that a packet costs with its first point: six in front of the points, and the point's four.
+pub const OPENING: u32 = 10;
+
 // How many points a packet takes at most behind its first.
 pub const MOST_MORE: usize = 125;
 

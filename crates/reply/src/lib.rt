@@ -1,4 +1,5 @@
 // Replies: writing one behind its three-byte head, and reading one on the host's side.
+use wire::LONGEST;
 use wire::Refusal;
 ghost use mathlib.Core.Path.{_≡_};
 ghost use Prim.Native.Nat.{_+_, _<_, _≤_};
@@ -24,7 +25,7 @@ impl ReplyReading {
                 status: _,
                 at: _,
                 size: _,
-            } => Refusal { number: 0 },
+            } => Refusal::by(0),
         }
     }
 }
@@ -38,7 +39,7 @@ pub fn read_reply(reply: &[u8], sum: bool) -> ReplyReading
     if n < 3 + extra {
         return refused(2);
     }
-    if 512 < n {
+    if LONGEST < n {
         return refused(3);
     }
     let size = n - 3 - extra;
@@ -82,13 +83,14 @@ fn sum_wrong(reply: &[u8], sum: bool) -> bool
 fn refused(number: u8) -> ReplyReading
     ensures { λ r. ⌜ replyAnswer r ≡ replyRefusedBy number ⌝ }
 {
-    ReplyReading::Refused(Refusal { number })
+    ReplyReading::Refused(Refusal::by(number))
 }
 
 // Puts the head before n bytes of data that stand at place 3, and the checksum behind them if sum is set. Answers the reply's length.
 pub fn seal(reply: &mut [u8], status: usize, n: usize, sum: bool) -> usize
     requires { ⌜ (status < 256) × (n < 65536) × (n + 4 ≤ length (now reply)) ⌝ }
-    ensures { λ r. ⌜ Overwrites r (replyBytes sum status (take n (drop 3 (now (reply .entry))))) (now (reply .entry)) (now (reply .exit)) ⌝ }
+    ensures { λ r. ⌜ Overwrites r (replyBytes sum status (take n (drop 3 (now (reply .entry)))))
+        (now (reply .entry)) (now (reply .exit)) ⌝ }
 {
     wire::put_byte(reply, 0, status);
     wire::put_word(reply, 1, n);

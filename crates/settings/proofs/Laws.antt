@@ -33,7 +33,7 @@ five : (e f g h k : List Field) (d : List ℕ) (at : ℕ)
     && right k d (at + span (e ++ f ++ g ++ h)))
 five e f g h k d at = simp right-append
 
--- The runs from place 497 on.
+-- The runs from 39h's place on.
 pub device-runs : (d : List ℕ)
     → right deviceFields d updatePlace
     ≡ (right (updateMode ∷ []) d updatePlace && right (forEach pinCount (behindPort 0x60)) d pinPlace && right (forEach pwmCount (behindPort 0x65)) d pwmPlace

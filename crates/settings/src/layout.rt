@@ -68,7 +68,9 @@ pub const PINS: usize = 498;
 
 pub const PIN_SIZE: usize = 3;
 
-pub const PIN_BYTES: usize = 88 * PIN_SIZE;
+pub const PIN_COUNT: usize = opcode::limits::MOST_PIN + 1;
+
+pub const PIN_BYTES: usize = PIN_COUNT * PIN_SIZE;
 
 pub const LEVELS: usize = PINS + 1;
 

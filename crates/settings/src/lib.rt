@@ -118,16 +118,9 @@ fn next_above(fine: bool, block: &[u8], at: usize) -> bool
     requires { ⌜ at + 4 ≤ length (now block) ⌝ }
     ensures { λ r. ⌜ r ≡ (fine && ltb (wordAt (now (block .entry)) at) (wordAt (now (block .entry)) (at + 2))) ⌝ }
 {
-    let v = number(block[at], block[at + 1]);
-    let next = number(block[at + 2], block[at + 3]);
+    let v = wire::number(block[at], block[at + 1]);
+    let next = wire::number(block[at + 2], block[at + 3]);
     if v < next { fine } else { false }
-}
-
-// The number of two bytes, low byte first.
-fn number(low: u8, high: u8) -> u16
-    ensures { λ r. ⌜ r ≡ low + 256 * high ⌝ }
-{
-    low as u16 + 256 * (high as u16)
 }
 
 // Update mode, pins, PWM ports, lock and UART ports, from update mode's place on.
@@ -265,8 +258,8 @@ pub fn reset_block(block: &mut [u8])
     spread(block, 0, 1, 0, BLOCK_SIZE);
     reset_shape(block, STAGED_SHAPE);
     reset_shape(block, LIVE_SHAPE);
-    spread(block, SMOOTH_TABLE, 1, 3, 2);
-    spread(block, PWM_PORTS, PWM_SIZE, 20, PWM_COUNT);
+    spread(block, SMOOTH_TABLE, 1, RESET_SMOOTH, 2);
+    spread(block, PWM_PORTS, PWM_SIZE, RESET_FREQUENCY, PWM_COUNT);
 }
 
 // Rule 5.10: all of a shape: mode 0, 62 columns, 32 rows, lists that count from 0.

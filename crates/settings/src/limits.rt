@@ -24,3 +24,8 @@ pub use opcode::limits::MOST_COLUMNS;
 pub use opcode::limits::MOST_FREQUENCY;
 pub use opcode::limits::MOST_ROWS;
 pub use opcode::limits::MOST_SMOOTH;
+
+// Rule 5.10: the smooth table's counts and the low byte of a PWM frequency after reset.
+pub const RESET_SMOOTH: u8 = LEAST_SMOOTH as u8;
+
+pub const RESET_FREQUENCY: u8 = LEAST_FREQUENCY as u8;

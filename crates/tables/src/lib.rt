@@ -7,13 +7,6 @@ ghost use lib.Seq.{paste};
 ghost use Rattle.wire.specs.Tables.{words, bytes};
 ghost use Rattle.wire.specs.Buffers.{over};
 
-// The number of two bytes, low byte first.
-fn number(low: u8, high: u8) -> u16
-    ensures { λ r. ⌜ r ≡ low + 256 * high ⌝ }
-{
-    low as u16 + 256 * (high as u16)
-}
-
 // n numbers out of src's bytes from a place on, into the table from a place on.
 pub fn words_in(table: &mut [u16], at: usize, src: &[u8], from: usize, n: usize)
     requires { ⌜ (at + n ≤ length (now table)) × (from + 2 * n ≤ length (now src)) ⌝ }
@@ -22,7 +15,7 @@ pub fn words_in(table: &mut [u16], at: usize, src: &[u8], from: usize, n: usize)
     let mut i = 0;
     while i < n {
         let j = from + 2 * i;
-        table[at + i] = number(src[j], src[j + 1]);
+        table[at + i] = wire::number(src[j], src[j + 1]);
         i += 1;
     }
 }

@@ -5,7 +5,7 @@ use mathlib.Core.Bool.{Bool, true, not, cond, _&&_}
 use mathlib.Core.List.{List, [], _∷_}
 use lib.ListN.{length, getD}
 use lib.Dec.{eqb, leb}
-use Rattle.upload.specs.Sizes.{mostCount, mostMore}
+use Rattle.upload.specs.Sizes.{mostMore}
 
 -- For each point, two numbers each, whether held differs from wanted there.
 unfoldable pub differs : List ℕ → List ℕ → List Bool
@@ -53,8 +53,8 @@ roomAt ds i = getD (rooms ds) i 0
 -- attains it.
 pub record SmallestCount (ds : List Bool) (count : ℕ) : Type 0 where
   pub some : 1 ≤ count
-  pub few : count ≤ mostCount
+  pub few : count ≤ 126
   pub within : count ≤ length (true ∷ ds)
   pub attained : roomAt (true ∷ ds) 0 ≡ 6 + 4 * count + roomAt (true ∷ ds) count
-  pub lower : (c : ℕ) → 1 ≤ c → c ≤ mostCount → c ≤ length (true ∷ ds) → roomAt (true ∷ ds) 0 ≤ 6 + 4 * c + roomAt (true ∷ ds) c
+  pub lower : (c : ℕ) → 1 ≤ c → c ≤ 126 → c ≤ length (true ∷ ds) → roomAt (true ∷ ds) 0 ≤ 6 + 4 * c + roomAt (true ∷ ds) c
   pub smallest : (c : ℕ) → 1 ≤ c → c < count → roomAt (true ∷ ds) 0 < 6 + 4 * c + roomAt (true ∷ ds) c

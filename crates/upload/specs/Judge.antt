@@ -1,6 +1,6 @@
 -- Rule 7.1: a list of packets of any bytes, judged on a map of N points. The map is held at first, and every packet writes on
 -- what was left before it.
-use Prim.Native.Nat.{ℕ, _+_, _*_, _≤_, _<_}
+use Prim.Native.Nat.{ℕ, _+_, _*_, _<_}
 use mathlib.Core.Path.{_≡_}
 use mathlib.Core.Bool.{true}
 use mathlib.Core.List.{List, [], _∷_}

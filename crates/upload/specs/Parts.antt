@@ -4,7 +4,6 @@ use Prim.Native.Nat.{ℕ, _+_, _≤_, _<_}
 use mathlib.Core.Path.{_≡_}
 use mathlib.Core.Logic.{_⊎_}
 use mathlib.Core.List.{List, [], _∷_, map}
-use Rattle.upload.specs.Sizes.{mostCount}
 use Rattle.upload.specs.Plan.{Part, cost, packetFor}
 use Rattle.upload.specs.Judge.{Turns}
 
@@ -14,7 +13,7 @@ part s c = record { start = s; count = c }
 -- Rule 6.1: a part of a map of n points.
 pub record Fits (n : ℕ) (p : Part) : Type 0 where
   pub some : 1 ≤ p .count
-  pub few : p .count ≤ mostCount
+  pub few : p .count ≤ 126
   pub within : p .start + p .count ≤ n
 
 -- Rule 6.1: parts of a map of n points, rising and not overlapping, from point i on.

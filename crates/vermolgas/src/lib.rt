@@ -16,7 +16,8 @@ pub extern "C" fn vermolgas_reset(
     live: &mut [u8],
     gains: &mut [u8],
 ) -> u64
-    ensures { λ r. ⌜ ResetsBytes (lent (now (block .entry)) (now (staged .entry)) (now (live .entry)) (now (gains .entry)))
+    ensures { λ r. ⌜ ResetsBytes
+        (lent (now (block .entry)) (now (staged .entry)) (now (live .entry)) (now (gains .entry)))
         (lentReset r (lent (now (block .exit)) (now (staged .exit)) (now (live .exit)) (now (gains .exit)))) ⌝ }
 {
     controller8::reset(block, staged, live, gains) as u64
@@ -94,7 +95,8 @@ pub extern "C" fn vermolgas_plan(
     room: &mut [u8],
     batch: &mut [u8],
 ) -> u64
-    ensures { λ r. ⌜ PackedPlan points (now (held .entry)) (now (wanted .entry)) (sheets (now (plan .entry)) (now (room .entry)) (now (batch .entry)))
+    ensures { λ r. ⌜ PackedPlan points (now (held .entry)) (now (wanted .entry))
+        (sheets (now (plan .entry)) (now (room .entry)) (now (batch .entry)))
         r (sheets (now (plan .exit)) (now (room .exit)) (now (batch .exit))) ⌝ }
 {
     let a = planner8::plan(points, held, wanted, plan, room, batch);

@@ -1,6 +1,6 @@
 // Bytes and numbers: what every layer above reads, sums and copies with.
 ghost use mathlib.Core.Path.{_≡_};
-ghost use Prim.Native.Nat.{_+_, _<_, _≤_};
+ghost use Prim.Native.Nat.{_+_, _*_, _<_, _≤_};
 ghost use mathlib.Core.List.{[], _∷_};
 ghost use lib.ListN.{length, take, drop};
 ghost use lib.Seq.{paste, sets};
@@ -10,6 +10,25 @@ ghost use Rattle.wire.specs.Checksum.{«checksum»};
 // Why something was refused: the number of rule 4.1, 0 where nothing was.
 pub struct Refusal {
     pub number: u8,
+}
+
+impl Refusal {
+    // Each refusal is made here.
+    pub fn by(number: u8) -> Self
+        ensures { λ r. ⌜ r .number ≡ number ⌝ }
+    {
+        Refusal { number }
+    }
+}
+
+// The most bytes of a packet and of a reply.
+pub const LONGEST: usize = 512;
+
+// The number of two bytes, low byte first.
+pub fn number(low: u8, high: u8) -> u16
+    ensures { λ r. ⌜ r ≡ low + 256 * high ⌝ }
+{
+    low as u16 + 256 * (high as u16)
 }
 
 // The byte at i, 0 past the end: a place that a packet does not have needs no test of its own.
@@ -72,7 +91,7 @@ pub fn copy(dst: &mut [u8], at: usize, src: &[u8], from: usize, n: usize)
     }
 }
 
-// Stores a byte: the lowest eight bits of v.
+// Stores a byte.
 pub fn put_byte(dst: &mut [u8], at: usize, v: usize)
     requires { ⌜ (at < length (now dst)) × (v < 256) ⌝ }
     ensures { λ _. ⌜ now (dst .exit) ≡ sets (now (dst .entry)) at (v ∷ []) ⌝ }

@@ -59,10 +59,14 @@ part-runs-past-end c = omega (arith, within c)
 runs-past-requires : tie.Need-runs-past-requires
 runs-past-requires c κs = search needs
 
+by-requires : tie.Need-by-requires
+by-requires c κs = search needs
+
 returns-2 : tie.Need-returns-2
 returns-2 c =
-    let called = c .before in
-    rw (c .if1 .taken) at (command-placed _ _ _ _ _ _ _ (command (called .before .before)) (called .runs-past .ensures))
+    let called = c .before .before in
+    rw (c .by .ensures)
+    (rw (c .before .if1 .taken) at (command-placed _ _ _ _ _ _ _ (command (called .before .before)) (called .runs-past .ensures)))
 
 returns-3 : tie.Need-returns-3
 returns-3 c =
@@ -84,5 +88,6 @@ decide-spec =
     part-runs-past-start
     part-runs-past-end
     runs-past-requires
+    by-requires
     returns-2
     returns-3)

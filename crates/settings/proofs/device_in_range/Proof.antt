@@ -1,4 +1,4 @@
--- The parts of the fields from place 497 on, in their order.
+-- The parts of the fields from 39h's place on, in their order.
 use Prim.Native.Nat.{ℕ, _+_, _*_}
 use mathlib.Core.Path.{_≡_, sym}
 use mathlib.Core.Bool.{Bool, true, _&&_, and-true, and-assoc}
