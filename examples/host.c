@@ -152,7 +152,7 @@ static int send_map(void)
         printf("34h: %zu of the points, from %zu on\n", walk.count, walk.start);
         exchange(walk.packet, walk.length);
     }
-    if (memcmp(device.staged, upload.wanted, sizeof upload.wanted) != 0) {
+    if (walk.status != VERMOLGAS_ACCEPTED || memcmp(device.staged, upload.wanted, sizeof upload.wanted) != 0) {
         fprintf(stderr, "the staged map isn't the one wanted\n");
         return EXIT_FAILURE;
     }

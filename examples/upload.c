@@ -150,7 +150,7 @@ static bool print_packets(void)
     while (vermolgas_walk_next(&walk))
         for (size_t i = 0; i < walk.length; i++)
             printf("0x%02X%c", walk.packet[i], i + 1 < walk.length ? ' ' : '\n');
-    return fflush(stdout) == 0 && !ferror(stdout);
+    return walk.status == VERMOLGAS_ACCEPTED && fflush(stdout) == 0 && !ferror(stdout);
 }
 
 /* Says what is sent, and the share that it saves against a map sent whole, in as few packets as it fits. */

@@ -6,8 +6,8 @@
  *
  * Every function takes any argument. NULL where something is lent is refusal 1, as a wrong length is, and a number that
  * does not fit its field is refusal 10; else the entries decide. The number is the first that applies, and then nothing
- * is written. What the caller sees to is what vermolgas.h says: a pointer is to as many bytes as the length behind it
- * says, and what is written overlaps nothing else that is lent.
+ * is written but for the reply of vermolgas_device_send. What the caller sees to is what vermolgas.h says: a pointer is
+ * to as many bytes as the length behind it says, and what is written overlaps nothing else that is lent.
  *
  * Names that end in an underscore are the layer's own.
  */
@@ -29,8 +29,8 @@ VERMOLGAS_INLINE_ const char *vermolgas_refusal_text(unsigned number)
     switch (number) {
     case VERMOLGAS_ACCEPTED: return "accepted";
     case VERMOLGAS_REFUSED_LENT: return "a lent length is wrong, or a stored setting is out of range";
-    case VERMOLGAS_REFUSED_TOO_SHORT: return "the packet is too short";
-    case VERMOLGAS_REFUSED_TOO_LONG: return "the packet is too long";
+    case VERMOLGAS_REFUSED_TOO_SHORT: return "too short for its fields";
+    case VERMOLGAS_REFUSED_TOO_LONG: return "longer than 512 bytes";
     case VERMOLGAS_REFUSED_LENGTH: return "the length field differs from the data";
     case VERMOLGAS_REFUSED_CHECKSUM: return "the checksum differs";
     case VERMOLGAS_REFUSED_DESTINATION: return "the destination isn't 4";
@@ -364,7 +364,7 @@ VERMOLGAS_INLINE_ struct vermolgas_command vermolgas_make_read_gains(enum vermol
 }
 
 /* The same command once more, with checksum and reply requested: for a line that loses bytes. Refused is what is no
- * packet, as vermolgas_read does. */
+ * packet, as vermolgas_read does, and with 3 a packet that has VERMOLGAS_LONGEST bytes without a checksum. */
 VERMOLGAS_INLINE_ struct vermolgas_command vermolgas_make_checked(const uint8_t *packet, size_t length)
 {
     uint64_t read;
@@ -379,17 +379,25 @@ VERMOLGAS_INLINE_ struct vermolgas_command vermolgas_make_checked(const uint8_t 
                                   packet + VERMOLGAS_READ_OFFSET(read), VERMOLGAS_READ_LENGTH(read));
 }
 
-/* The upload of a map: what the device holds, what it is to hold, and what planning writes. packets and bytes are those
- * of the last plan; a zeroed upload has none. */
+/* The upload of a map: what the device holds, what it is to hold, and what planning writes. points, packets and bytes
+ * are those of the plan, and all 0 while there is none: in a zeroed upload, after vermolgas_upload_start, and after a
+ * point was set. A plan for equal maps has points, but no packet. */
 struct vermolgas_upload {
     uint8_t held[VERMOLGAS_MAP_BYTES];
     uint8_t wanted[VERMOLGAS_MAP_BYTES];
     uint8_t plan[VERMOLGAS_PLAN_LIST_BYTES];
     uint8_t room[VERMOLGAS_ROOM_BYTES];
     uint8_t batch[VERMOLGAS_BATCH_BYTES];
+    uint32_t points;
     size_t packets;
     size_t bytes;
 };
+
+static inline void vermolgas_unplan_(struct vermolgas_upload *upload)
+{
+    upload->points = 0;
+    upload->packets = upload->bytes = 0;
+}
 
 /* Begins an upload: held and wanted are the device's staged map, and nothing is planned. */
 VERMOLGAS_INLINE_ unsigned vermolgas_upload_start(struct vermolgas_upload *upload,
@@ -399,12 +407,13 @@ VERMOLGAS_INLINE_ unsigned vermolgas_upload_start(struct vermolgas_upload *uploa
         return VERMOLGAS_REFUSED_LENT;
     memcpy(upload->held, device->staged, sizeof upload->held);
     memcpy(upload->wanted, device->staged, sizeof upload->wanted);
-    upload->packets = 0;
-    upload->bytes = 0;
+    vermolgas_unplan_(upload);
     return VERMOLGAS_ACCEPTED;
 }
 
-VERMOLGAS_INLINE_ unsigned vermolgas_set_point_(uint8_t *map, size_t index, struct vermolgas_point point)
+/* Sets a point of one of the upload's maps. */
+VERMOLGAS_INLINE_ unsigned vermolgas_set_point_(struct vermolgas_upload *upload, uint8_t *map, size_t index,
+                                                struct vermolgas_point point)
 {
     uint8_t *place;
 
@@ -415,20 +424,22 @@ VERMOLGAS_INLINE_ unsigned vermolgas_set_point_(uint8_t *map, size_t index, stru
     place[1] = VERMOLGAS_CAST(uint8_t, point.x >> 8);
     place[2] = VERMOLGAS_CAST(uint8_t, point.y & 0xFF);
     place[3] = VERMOLGAS_CAST(uint8_t, point.y >> 8);
+    vermolgas_unplan_(upload);
     return VERMOLGAS_ACCEPTED;
 }
 
-/* Sets a point of the map held, and of the map wanted. Refusal 12 for an index past the map. */
+/* Sets a point of the map held, and of the map wanted. The upload then has no plan, even if the point was the same
+ * before, and a walk under way ends with status 1. Refusal 12 for an index past the map. */
 VERMOLGAS_INLINE_ unsigned vermolgas_upload_hold(struct vermolgas_upload *upload, size_t index,
                                                  struct vermolgas_point point)
 {
-    return upload == NULL ? VERMOLGAS_REFUSED_LENT : vermolgas_set_point_(upload->held, index, point);
+    return upload == NULL ? VERMOLGAS_REFUSED_LENT : vermolgas_set_point_(upload, upload->held, index, point);
 }
 
 VERMOLGAS_INLINE_ unsigned vermolgas_upload_want(struct vermolgas_upload *upload, size_t index,
                                                  struct vermolgas_point point)
 {
-    return upload == NULL ? VERMOLGAS_REFUSED_LENT : vermolgas_set_point_(upload->wanted, index, point);
+    return upload == NULL ? VERMOLGAS_REFUSED_LENT : vermolgas_set_point_(upload, upload->wanted, index, point);
 }
 
 /* Plans the upload of the first points of the map, 1 to VERMOLGAS_MOST_POINTS, else refusal 10. On a refusal all
@@ -443,6 +454,7 @@ VERMOLGAS_INLINE_ unsigned vermolgas_upload_plan(struct vermolgas_upload *upload
     answer = vermolgas_plan(points, upload->held, length, upload->wanted, length, upload->plan, sizeof upload->plan,
                             upload->room, sizeof upload->room, upload->batch, sizeof upload->batch);
     if (VERMOLGAS_STATUS(answer) == VERMOLGAS_ACCEPTED) {
+        upload->points = points;
         upload->packets = VERMOLGAS_PLAN_PACKETS(answer);
         upload->bytes = VERMOLGAS_PLAN_BYTES(answer);
     }
@@ -454,61 +466,101 @@ VERMOLGAS_INLINE_ unsigned vermolgas_upload_plan(struct vermolgas_upload *upload
  *     struct vermolgas_walk walk = vermolgas_upload_walk(&upload);
  *     while (vermolgas_walk_next(&walk))
  *         send(walk.packet, walk.length);
+ *     if (walk.status != VERMOLGAS_ACCEPTED)
+ *         .. the upload was not planned, or did not stay as it was
  *
- * The upload has to stay as it was planned. If it did not, the walk ends with status 1, and never leaves the batch. */
+ * It never leaves the batch. At its end the status is 0 if the upload was planned, its points, packets and bytes stayed
+ * those that the walk began with, each packet's first six bytes were those of its start and count in the plan, and the
+ * packets fill all bytes; else it is 1, and a packet that differs was not handed out. No more is looked at: what is
+ * changed by hand in the maps or in a packet's points stays unseen, and so does a new plan in mid-walk that has the
+ * same points, packets and bytes, if its packets stand where the walk looks for them. */
 struct vermolgas_walk {
     const struct vermolgas_upload *upload;
+    uint32_t points;       /* of the plan that it began with, as the next two */
+    size_t packets;
+    size_t bytes;
     size_t next;           /* which packet of the plan comes next, and where it stands in the batch */
     size_t next_offset;
-    unsigned status;
+    unsigned status;       /* to be tested when vermolgas_walk_next has answered false */
     const uint8_t *packet; /* the packet at hand; NULL before the first and behind the last */
     size_t length;
     size_t start, count;   /* the points that it carries */
 };
 
+/* Begins a walk. Status 1 for NULL and for an upload that is not planned: then there is no packet. */
 VERMOLGAS_INLINE_ struct vermolgas_walk vermolgas_upload_walk(const struct vermolgas_upload *upload)
 {
     struct vermolgas_walk walk;
     memset(&walk, 0, sizeof walk);
     walk.upload = upload;
     walk.packet = NULL;
-    walk.status = upload == NULL ? VERMOLGAS_REFUSED_LENT : VERMOLGAS_ACCEPTED;
+    walk.status = VERMOLGAS_REFUSED_LENT;
+    if (upload == NULL || upload->points == 0)
+        return walk;
+    walk.status = VERMOLGAS_ACCEPTED;
+    walk.points = upload->points;
+    walk.packets = upload->packets;
+    walk.bytes = upload->bytes;
     return walk;
 }
 
-/* The packet that comes next, by the plan's count of its points. Whether it lies in the batch as planned. */
-VERMOLGAS_INLINE_ bool vermolgas_walk_step_(struct vermolgas_walk *walk)
+/* Whether the upload's plan has the numbers of the one that the walk began with, and the walk stands in the batch. */
+VERMOLGAS_INLINE_ bool vermolgas_walk_within_(const struct vermolgas_walk *walk)
 {
     const struct vermolgas_upload *upload = walk->upload;
-    const uint8_t *listed;
 
-    if (walk->next >= VERMOLGAS_MOST_POINTS || upload->bytes > sizeof upload->batch ||
-        walk->next_offset > upload->bytes)
+    return upload != NULL && upload->points == walk->points && upload->packets == walk->packets &&
+           upload->bytes == walk->bytes && walk->packets <= VERMOLGAS_MOST_POINTS &&
+           walk->bytes <= sizeof upload->batch && walk->next_offset <= walk->bytes;
+}
+
+VERMOLGAS_INLINE_ size_t vermolgas_word_(const uint8_t *bytes)
+{
+    return VERMOLGAS_CAST(size_t, bytes[0] | bytes[1] << 8);
+}
+
+/* Whether a packet begins as a 34h write of so many points from start on does. */
+VERMOLGAS_INLINE_ bool vermolgas_begins_as_(const uint8_t *packet, size_t start, size_t count)
+{
+    return packet[0] == (4 | VERMOLGAS_OPTION_LENGTH) && packet[1] == VERMOLGAS_OP_WARP_TABLE &&
+           vermolgas_word_(packet + 2) == 2 + VERMOLGAS_POINT_BYTES * count && vermolgas_word_(packet + 4) == start;
+}
+
+/* Takes the packet that comes next, by its start and count in the plan. Whether it stands so in the batch. */
+VERMOLGAS_INLINE_ bool vermolgas_walk_step_(struct vermolgas_walk *walk)
+{
+    const uint8_t *listed = walk->upload->plan + 4 * walk->next;
+    const uint8_t *packet = walk->upload->batch + walk->next_offset;
+    size_t start = vermolgas_word_(listed), count = vermolgas_word_(listed + 2);
+    size_t length = 6 + VERMOLGAS_POINT_BYTES * count;
+
+    if (count == 0 || count > VERMOLGAS_WRITE_POINTS || length > walk->bytes - walk->next_offset ||
+        !vermolgas_begins_as_(packet, start, count))
         return false;
-    listed = upload->plan + 4 * walk->next;
-    walk->start = VERMOLGAS_CAST(size_t, listed[0] | listed[1] << 8);
-    walk->count = VERMOLGAS_CAST(size_t, listed[2] | listed[3] << 8);
-    walk->length = 6 + VERMOLGAS_POINT_BYTES * walk->count;
-    if (walk->length > upload->bytes - walk->next_offset)
-        return false;
-    walk->packet = upload->batch + walk->next_offset;
-    walk->next_offset += walk->length;
+    walk->packet = packet;
+    walk->length = length;
+    walk->start = start;
+    walk->count = count;
     walk->next++;
+    walk->next_offset += length;
     return true;
 }
 
-/* Goes on to the next packet; false if there is none. */
+/* Goes on to the next packet; false if there is none, or if the walk ends with status 1. */
 VERMOLGAS_INLINE_ bool vermolgas_walk_next(struct vermolgas_walk *walk)
 {
     if (walk == NULL)
         return false;
     walk->packet = NULL;
     walk->length = walk->start = walk->count = 0;
-    if (walk->status != VERMOLGAS_ACCEPTED || walk->upload == NULL || walk->next >= walk->upload->packets)
+    if (walk->status != VERMOLGAS_ACCEPTED)
         return false;
-    if (vermolgas_walk_step_(walk))
-        return true;
-    walk->length = walk->start = walk->count = 0;
+    if (vermolgas_walk_within_(walk)) {
+        if (walk->next < walk->packets && vermolgas_walk_step_(walk))
+            return true;
+        if (walk->next == walk->packets && walk->next_offset == walk->bytes)
+            return false;
+    }
     walk->status = VERMOLGAS_REFUSED_LENT;
     return false;
 }

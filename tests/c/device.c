@@ -465,6 +465,8 @@ static void uploads(void)
 static void checked_uploads(void)
 {
     static const uint8_t other[] = {0x84, 0x60, 12};
+    static const uint16_t gains[VERMOLGAS_WRITE_GAINS] = {0};
+    struct vermolgas_command longest = vermolgas_make_gains(VERMOLGAS_GAIN_ALL, 0, gains, COUNT(gains), 0);
     struct vermolgas_walk walk;
 
     plan_a_map();
@@ -477,54 +479,214 @@ static void checked_uploads(void)
         CHECK(command.bytes[0] == 0x74 && memcmp(command.bytes + 1, walk.packet + 1, walk.length - 1) == 0);
         CHECK(result.status == VERMOLGAS_ACCEPTED && result.reply_length == 4);
     }
-    CHECK(memcmp(device.staged, upload.wanted, sizeof device.staged) == 0);
+    CHECK(walk.status == VERMOLGAS_ACCEPTED && memcmp(device.staged, upload.wanted, sizeof device.staged) == 0);
     CHECK_MADE(vermolgas_make_checked(other, sizeof other), "E4 60 0C 50");
     CHECK_REFUSED(vermolgas_make_checked(other, 2), VERMOLGAS_REFUSED_SIZE);
     CHECK_REFUSED(vermolgas_make_checked(NULL, 3), VERMOLGAS_REFUSED_LENT);
+    CHECK(longest.length == VERMOLGAS_LONGEST);
+    CHECK_REFUSED(vermolgas_make_checked(longest.bytes, longest.length), VERMOLGAS_REFUSED_TOO_LONG);
 }
 
-/* Whether a walk over the upload as it is ends with status 1, within the batch. */
-static bool walk_ends(void)
+/* Plans three packets of three points each, 18 bytes a packet: from first on, from 500 and from 1000 behind it. */
+static void plan_three(size_t first)
+{
+    size_t i;
+
+    start();
+    CHECK(vermolgas_upload_start(&upload, &device) == VERMOLGAS_ACCEPTED);
+    for (i = 0; i < 9; i++)
+        CHECK(vermolgas_upload_want(&upload, first + 500 * (i / 3) + i % 3, point_at(7, 9)) == VERMOLGAS_ACCEPTED);
+    CHECK(vermolgas_upload_plan(&upload, VERMOLGAS_MOST_POINTS) == VERMOLGAS_ACCEPTED);
+    CHECK(upload.points == VERMOLGAS_MOST_POINTS && upload.packets == 3 && upload.bytes == 3 * 18);
+}
+
+/* A walk over the upload, one packet far. */
+static struct vermolgas_walk under_way(void)
 {
     struct vermolgas_walk walk = vermolgas_upload_walk(&upload);
-    size_t end = sizeof upload.batch;
-
-    while (vermolgas_walk_next(&walk))
-        CHECK(walk.packet >= upload.batch && walk.packet + walk.length <= upload.batch + end);
-    return walk.status == VERMOLGAS_REFUSED_LENT && walk.packet == NULL && walk.length == 0;
+    CHECK(vermolgas_walk_next(&walk) && walk.packet == upload.batch);
+    return walk;
 }
 
-/* Uploads that did not stay as planned, and walks that were led astray. */
-static void changed_uploads(void)
+/* Whether a walk goes on for so many packets, within the batch, and ends with this status. */
+static bool goes_on(struct vermolgas_walk *walk, size_t packets, unsigned status)
+{
+    size_t end = sizeof upload.batch, more = 0;
+
+    for (; vermolgas_walk_next(walk); more++)
+        CHECK(walk->packet >= upload.batch && walk->packet + walk->length <= upload.batch + end);
+    CHECK(walk->packet == NULL && walk->length == 0 && walk->start == 0 && walk->count == 0);
+    return more == packets && walk->status == status;
+}
+
+/* The same of a walk over the upload as it is. */
+static bool walks(size_t packets, unsigned status)
+{
+    struct vermolgas_walk walk = vermolgas_upload_walk(&upload);
+    return goes_on(&walk, packets, status);
+}
+
+/* Walks to the end: nothing was changed, whatever was tried. */
+static void untouched_walks(void)
 {
     struct vermolgas_walk walk;
 
-    plan_a_map();
+    plan_three(0);
+    CHECK(walks(3, VERMOLGAS_ACCEPTED));
+    walk = under_way();
+    CHECK(vermolgas_upload_hold(&upload, VERMOLGAS_MOST_POINTS, point_at(1, 2)) == VERMOLGAS_REFUSED_PAST_TABLE);
+    CHECK(vermolgas_upload_want(&upload, VERMOLGAS_MOST_POINTS, point_at(1, 2)) == VERMOLGAS_REFUSED_PAST_TABLE);
+    CHECK(vermolgas_upload_plan(&upload, 0) == VERMOLGAS_REFUSED_RANGE);
+    CHECK(goes_on(&walk, 2, VERMOLGAS_ACCEPTED) && goes_on(&walk, 0, VERMOLGAS_ACCEPTED));
+}
+
+/* A point that is set takes the plan away: from a walk under way, from the next one, and from one without packets. */
+static void points_set_after_planning(unsigned (*set)(struct vermolgas_upload *, size_t, struct vermolgas_point))
+{
+    struct vermolgas_walk walk;
+
+    plan_three(0);
+    walk = under_way();
+    CHECK(set(&upload, 1983, point_at(1, 2)) == VERMOLGAS_ACCEPTED);
+    CHECK(upload.points == 0 && upload.packets == 0 && upload.bytes == 0);
+    CHECK(goes_on(&walk, 0, VERMOLGAS_REFUSED_LENT) && walks(0, VERMOLGAS_REFUSED_LENT));
+    CHECK(vermolgas_upload_plan(&upload, VERMOLGAS_MOST_POINTS) == VERMOLGAS_ACCEPTED && walks(4, VERMOLGAS_ACCEPTED));
+
+    CHECK(vermolgas_upload_start(&upload, &device) == VERMOLGAS_ACCEPTED && walks(0, VERMOLGAS_REFUSED_LENT));
+    CHECK(vermolgas_upload_plan(&upload, VERMOLGAS_MOST_POINTS) == VERMOLGAS_ACCEPTED && upload.packets == 0);
     walk = vermolgas_upload_walk(&upload);
-    walk.next_offset = SIZE_MAX;
+    CHECK(goes_on(&walk, 0, VERMOLGAS_ACCEPTED));
+    CHECK(set(&upload, 0, point_at(1, 2)) == VERMOLGAS_ACCEPTED && goes_on(&walk, 0, VERMOLGAS_REFUSED_LENT));
+}
+
+static void unplanned_uploads(void)
+{
+    points_set_after_planning(vermolgas_upload_hold);
+    points_set_after_planning(vermolgas_upload_want);
+    memset(&upload, 0, sizeof upload);
+    CHECK(walks(0, VERMOLGAS_REFUSED_LENT));
+}
+
+/* The numbers of a plan: fewer packets, more bytes. */
+static void changed_numbers(void)
+{
+    struct vermolgas_walk walk;
+
+    plan_three(0);
+    walk = under_way();
+    upload.packets--;
+    CHECK(goes_on(&walk, 0, VERMOLGAS_REFUSED_LENT) && walks(2, VERMOLGAS_REFUSED_LENT));
+    upload.packets = 0;
+    CHECK(walks(0, VERMOLGAS_REFUSED_LENT));
+    plan_three(0);
+    walk = under_way();
+    upload.bytes++;
+    CHECK(goes_on(&walk, 0, VERMOLGAS_REFUSED_LENT) && walks(3, VERMOLGAS_REFUSED_LENT));
+}
+
+/* A start and a count of the plan, once with a packet that agrees, but has no points or too many. */
+static void changed_plans(void)
+{
+    plan_three(0);
+    upload.plan[6]--;
+    CHECK(walks(1, VERMOLGAS_REFUSED_LENT));
+    plan_three(0);
+    upload.plan[4]++;
+    CHECK(walks(1, VERMOLGAS_REFUSED_LENT));
+    plan_three(0);
+    upload.plan[2] = 0;
+    upload.batch[2] = 2;
+    CHECK(walks(0, VERMOLGAS_REFUSED_LENT));
+    upload.plan[2] = VERMOLGAS_WRITE_POINTS + 1;
+    upload.batch[2] = 0xFE;
+    upload.batch[3] = 0x01;
+    upload.bytes = sizeof upload.batch;
+    CHECK(walks(0, VERMOLGAS_REFUSED_LENT));
+}
+
+/* Each of the first six bytes of each packet: those before it are handed out, and no other. */
+static void changed_heads(void)
+{
+    size_t packet, place;
+
+    plan_three(0);
+    for (packet = 0; packet < 3; packet++)
+        for (place = 0; place < 6; place++) {
+            upload.batch[18 * packet + place] ^= 1;
+            CHECK(walks(packet, VERMOLGAS_REFUSED_LENT));
+            upload.batch[18 * packet + place] ^= 1;
+        }
+    CHECK(walks(3, VERMOLGAS_ACCEPTED));
+}
+
+/* Planned again in mid-walk: another number of packets, of bytes, of points; packets that stand elsewhere. */
+static void plans_in_mid_walk(void)
+{
+    struct vermolgas_walk walk;
+
+    plan_three(0);
+    walk = under_way();
+    CHECK(vermolgas_upload_plan(&upload, 1000) == VERMOLGAS_ACCEPTED && upload.packets == 2);
+    CHECK(goes_on(&walk, 0, VERMOLGAS_REFUSED_LENT) && walks(2, VERMOLGAS_ACCEPTED));
+    plan_three(0);
+    walk = under_way();
+    CHECK(vermolgas_upload_want(&upload, 1003, point_at(7, 9)) == VERMOLGAS_ACCEPTED);
+    CHECK(vermolgas_upload_plan(&upload, VERMOLGAS_MOST_POINTS) == VERMOLGAS_ACCEPTED && upload.packets == 3);
+    CHECK(goes_on(&walk, 0, VERMOLGAS_REFUSED_LENT));
+    plan_three(0);
+    walk = under_way();
+    CHECK(vermolgas_upload_plan(&upload, 1983) == VERMOLGAS_ACCEPTED && upload.bytes == walk.bytes);
+    CHECK(goes_on(&walk, 0, VERMOLGAS_REFUSED_LENT));
+    plan_three(0);
+    walk = under_way();
+    CHECK(vermolgas_upload_hold(&upload, 0, point_at(7, 9)) == VERMOLGAS_ACCEPTED);
+    CHECK(vermolgas_upload_want(&upload, 1003, point_at(7, 9)) == VERMOLGAS_ACCEPTED);
+    CHECK(vermolgas_upload_plan(&upload, VERMOLGAS_MOST_POINTS) == VERMOLGAS_ACCEPTED);
+    CHECK(upload.packets == 3 && upload.bytes == 3 * 18 && goes_on(&walk, 0, VERMOLGAS_REFUSED_LENT));
+
+    plan_three(0); /* one whose numbers and places are the same stays unseen, as the header says */
+    walk = under_way();
+    plan_three(10);
+    CHECK(goes_on(&walk, 2, VERMOLGAS_ACCEPTED));
+}
+
+/* Uploads that are no plan, and walks that were led astray. */
+static void strange_uploads(void)
+{
+    struct vermolgas_walk walk;
+
+    plan_three(0);
+    walk = vermolgas_upload_walk(&upload);
+    walk.next_offset = SIZE_MAX / 2;
     CHECK(!vermolgas_walk_next(&walk) && walk.status == VERMOLGAS_REFUSED_LENT);
-    upload_before = upload;
-    upload.packets++;
-    CHECK(walk_ends());
-    upload.packets = SIZE_MAX;
-    CHECK(walk_ends());
     walk = vermolgas_upload_walk(&upload);
     walk.next = SIZE_MAX / 8;
     CHECK(!vermolgas_walk_next(&walk) && walk.status == VERMOLGAS_REFUSED_LENT);
+    memset(&walk, 0, sizeof walk);
+    CHECK(!vermolgas_walk_next(&walk) && walk.status == VERMOLGAS_REFUSED_LENT);
+    upload_before = upload;
+    upload.packets++;
+    CHECK(walks(3, VERMOLGAS_REFUSED_LENT));
+    upload.packets = SIZE_MAX;
+    CHECK(walks(0, VERMOLGAS_REFUSED_LENT));
     upload.bytes = SIZE_MAX;
-    CHECK(walk_ends());
+    CHECK(walks(0, VERMOLGAS_REFUSED_LENT));
+    upload = upload_before;
+    upload.bytes = SIZE_MAX;
+    CHECK(walks(0, VERMOLGAS_REFUSED_LENT));
     upload = upload_before;
     upload.bytes--;
-    CHECK(walk_ends());
+    CHECK(walks(2, VERMOLGAS_REFUSED_LENT));
     upload = upload_before;
     upload.plan[2] = 0xFF;
     upload.plan[3] = 0xFF;
-    CHECK(walk_ends());
+    CHECK(walks(0, VERMOLGAS_REFUSED_LENT));
     memset(&upload, 0xFF, sizeof upload);
-    CHECK(walk_ends());
-    memset(upload.plan, 0, sizeof upload.plan); /* packets without points, more of them than a plan has */
+    CHECK(walks(0, VERMOLGAS_REFUSED_LENT));
+    memset(upload.plan, 0, sizeof upload.plan); /* packets without points, as many as a plan can have */
+    upload.packets = VERMOLGAS_MOST_POINTS;
     upload.bytes = sizeof upload.batch;
-    CHECK(walk_ends());
+    CHECK(walks(0, VERMOLGAS_REFUSED_LENT));
 }
 
 /* Arguments that are nothing, or out of range: a status, and no byte is written. */
@@ -574,6 +736,8 @@ static void words(void)
             CHECK(strcmp(text, vermolgas_refusal_text(other)) != 0);
         CHECK(strcmp(text, vermolgas_refusal_text(UINT_MAX)) != 0);
     }
+    for (number = 2; number <= 5; number++) /* of packets and of replies */
+        CHECK(strstr(vermolgas_refusal_text(number), "packet") == NULL);
     CHECK(strcmp(vermolgas_refusal_text(0), "accepted") == 0);
     CHECK(strcmp(vermolgas_refusal_text(99), "no such refusal") == 0);
 }
@@ -597,7 +761,13 @@ static const struct group groups[] = {
     {"a session", a_session},
     {"uploads", uploads},
     {"checked uploads", checked_uploads},
-    {"changed uploads", changed_uploads},
+    {"untouched walks", untouched_walks},
+    {"unplanned uploads", unplanned_uploads},
+    {"changed numbers", changed_numbers},
+    {"changed plans", changed_plans},
+    {"changed heads", changed_heads},
+    {"plans in mid-walk", plans_in_mid_walk},
+    {"strange uploads", strange_uploads},
     {"bad arguments", bad_arguments},
     {"words", words},
     {"version", version},
