@@ -37,8 +37,11 @@ enum-told c = search needs
 slice-aggregate-print-number : tie.Need-slice-aggregate-print-number
 slice-aggregate-print-number c = search needs
 
-number-of-requires : tie.Need-number-of-requires
-number-of-requires c κs = search needs
+refusal-requires : tie.Need-refusal-requires
+refusal-requires c κs = search needs
+
+cast-refusal : tie.Need-cast-print-number
+cast-refusal c = search needs
 
 print-number-requires : tie.Need-print-number-requires
 print-number-requires c κs = search needs
@@ -100,7 +103,7 @@ make-requires c κs = search needs
 slice-aggregate-print-number-4 : tie.Need-slice-aggregate-print-number-4
 slice-aggregate-print-number-4 c = search needs
 
-cast-print-number : tie.Need-cast-print-number
+cast-print-number : tie.Need-cast-print-number-2
 cast-print-number c = search needs
 
 print-number-requires-4 : tie.Need-print-number-requires-4
@@ -138,7 +141,8 @@ present-spec =
     enum-known-r
     enum-told
     slice-aggregate-print-number
-    number-of-requires
+    refusal-requires
+    cast-refusal
     print-number-requires
     slice-aggregate-write-all-2
     write-all-requires-2
