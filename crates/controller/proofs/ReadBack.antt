@@ -129,6 +129,12 @@ answered n p a =
     ⊎-elim (λ r. rw (eq-eqb (isRead (headerOf p)) 1 r)) (λ r. rw (eq-eqb (asksReply (headerOf p)) 1 r, or-true)) (a .0 .bit) in
     rw (lt-ltb 0 (length p) (omega (arith, a .0 .some)), bits, ne-eqb n 1 (a .1))
 
+-- A reply without data.
+bare-size : (h n : ℕ) → length (replyBytes (eqb (hasSum h) 1) n []) ≡ 3 + hasSum h
+bare-size h n =
+    length-reply (eqb (hasSum h) 1) n []
+    ∙ elim (ℕ-discrete (hasSum h) 1) [ yes e ↦ rw (eq-eqb (hasSum h) 1 e, e) | no e ↦ rw (ne-eqb (hasSum h) 1 e) (omega arith) ]
+
 pub replied : (p : List ℕ) (s : State) (reply : List ℕ) → Replied p s (step p s reply)
 unfolding step replyTo
 replied p s reply = go (answers n p) refl
@@ -144,6 +150,7 @@ replied p s reply = go (answers n p) refl
         let none : replyTo n p s ≡ [] = rw e in
         record {
           asked = (λ h. absurd (omega (arith, ap length none)), λ a. absurd (true≢false (sym (answered n p a) ∙ e)));
+          bare = λ wrong h. absurd (omega (arith, ap length none));
           means = λ h. absurd (omega (arith, ap length none));
           content = λ h. absurd (omega (arith, ap length none));
         }
@@ -153,6 +160,9 @@ replied p s reply = go (answers n p) refl
         reads-back sum n (replyData n p s) (number-small p s reply) (rw length-reply (fits sum (data-small p s reply))) in
         record {
           asked = (λ h. asks-it n p e, λ a. omega (arith, ap length bytes, length-reply sum n (replyData n p s)));
+          bare = λ wrong h.
+              let none : replyData n p s ≡ [] = rw (ne-eqb n 0 wrong) in
+              ap length (bytes ∙ ap (replyBytes sum n) none) ∙ bare-size (headerOf p) n;
           means = λ h. rw (take-over (replyTo n p s) reply, bytes) (back .reading);
           content = λ h. rw (take-over (replyTo n p s) reply, bytes) (back .content);
         }

@@ -115,10 +115,11 @@ pub record Asks (p : List ℕ) : Type 0 where
   pub some : 1 ≤ length p
   pub bit : (isRead (headerOf p) ≡ 1) ⊎ (asksReply (headerOf p) ≡ 1)
 
--- Rules 3.2 and 3.6: one is written exactly if it is asked for and the number is not 1, and it reads back as it was meant: its
--- status, and its data.
+-- Rules 3.2, 3.3 and 3.6: one is written exactly if it is asked for and the number is not 1; a refusal's is the head alone, and a checksum if
+-- there is one; and it reads back as it was meant: its status, and its data.
 pub record Replied (p : List ℕ) (s : State) (o : Out) : Type 0 where
   pub asked : (1 ≤ o .size) ↔ (Asks p × (o .status ≡ 1 → ⊥))
+  pub bare : (o .status ≡ 0 → ⊥) → 1 ≤ o .size → o .size ≡ 3 + hasSum (headerOf p)
   pub means : 1 ≤ o .size
       → replyReading (take (o .size) (o .reply)) (eqb (hasSum (headerOf p)) 1)
       ≡ record { number = 0; status = o .status; place = 3; size = length (replyData (o .status) p s) }

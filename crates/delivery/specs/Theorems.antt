@@ -4,8 +4,11 @@ use Prim.Native.Nat.{ℕ, suc, _*_, _≤_, _<_}
 use mathlib.Core.Path.{_≡_}
 use mathlib.Core.Bool.{Bool}
 use mathlib.Core.List.{List, [], _∷_}
-use lib.ListN.{take, getD}
+use lib.ListN.{length, take, getD}
 use Rattle.wire.specs.Checksum.{checksum}
+use Rattle.opcode.specs.Options.{hasLength}
+use Rattle.packet.specs.Frame.{headerOf, announced}
+use Rattle.packet.specs.Sound.{Sound}
 use Rattle.controller.specs.State.{State}
 use Rattle.controller.specs.Demands.{LentRight, stagedPoints, LiveKept}
 use Rattle.controller.specs.Calls.{Call, stateAfterAll, NoneApplies}
@@ -26,6 +29,8 @@ pub record Theorems : Type 0 where
   pub smallest-count : (ds : List Bool) → SmallestCount ds (suc (more 125 (rooms ds)))
   -- Every number of a batch is a byte.
   pub batch-bytes : (n : ℕ) (held wanted : List ℕ) → n ≤ 65536 → MapOf n held → MapOf n wanted → (k : ℕ) → getD (batchOf held wanted) k 0 < 256
+  -- Rules 2.1 and 2.4: a sound packet with a length field has as many bytes as it announces.
+  pub announced-sound : (p : List ℕ) → Sound p → hasLength (headerOf p) ≡ 1 → announced p ≡ length p
   -- Rule 2.4: who walks a batch by what its packets announce finds just the plan's packets, whatever stands behind them.
   pub batch-walked : (n : ℕ) (held wanted : List ℕ) → MapOf n held → MapOf n wanted → (rest : List ℕ)
       → EachAnnounced rest (packetsOf held wanted)

@@ -1,5 +1,6 @@
 -- Each theorem of the list, where it is proved.
 use mathlib.Core.Path.{refl}
+use native.Mathlib.Omega.{arith}
 use Rattle.wire.specs.Checksum.{total, checksum}
 use Rattle.controller.proofs.Demands.{runs, right-running}
 use Rattle.controller.proofs.Live.{live-kept}
@@ -19,6 +20,7 @@ returns c =
       delivered = λ n held wanted h w s reply l. delivered n held wanted h w s reply (runs s reply (right-running l));
       smallest-count = room-packet;
       batch-bytes = λ n held wanted small h w. batch-bytes n small wanted w held h;
+      announced-sound = λ p s h. rw h (omega (arith, s .whole, s .counted h));
       batch-walked = λ n held wanted h w. batch-announced n held wanted (h .long) (w .long);
       examples = examples;
       sum-wraps = refl;
