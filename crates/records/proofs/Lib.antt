@@ -1,0 +1,4 @@
+pub mod Runs
+pub mod Kept
+pub mod Steps
+pub mod File
