@@ -1,0 +1,5 @@
+pub mod Lines
+pub mod Turns
+pub mod Closing
+pub mod Files
+pub mod Example

@@ -1,0 +1,23 @@
+-- Each theorem of the list, where it is proved.
+use Rattle.playback.proofs.Files.{any-split, recounts, closes, recorded, not-a-session, none-stopped, stays-right, over-long}
+use Rattle.playback.proofs.Example.{example, cut-example}
+use Rattle.playback.proofs.theorems.Statement.{statement}
+use Rattle.playback.proofs.theorems.Tie as tie
+
+returns : tie.Need-returns
+returns c =
+    record {
+      any-split = any-split;
+      recounts = recounts;
+      closes = closes;
+      recorded = recorded;
+      not-a-session = not-a-session;
+      none-stopped = none-stopped;
+      stays-right = stays-right;
+      over-long = over-long;
+      example = example;
+      cut-example = cut-example;
+    }
+
+pub theorems-spec : {M : Type 1} → statement M
+theorems-spec = tie.close (tie.spec returns)
