@@ -1,0 +1,101 @@
+use mathlib.Core.Path.{_≡_}
+use lib.ListN.{length}
+use borrow.Author.Needs.{needs}
+use Rattle.replay.proofs.run.Statement.{statement}
+use Rattle.replay.proofs.run.Tie as tie
+use Rattle.replay.proofs.run.Reads as reads
+use Rattle.replay.proofs.run.Lts as lts
+use Rattle.replay.proofs.close.Reads as close-reads
+use Rattle.replay.proofs.left.Reads as left-reads
+use Rattle.replay.proofs.one_window.Reads as one-window-reads
+
+abbrev Inv-loop : tie.InvT-loop
+Inv-loop window₀ kept₀ block₀ staged₀ live₀ gains₀ reply₀ out₀ s₀ turns₀ window kept block staged live gains reply out s turns =
+    (length window ≡ length window₀) × (length kept ≡ length kept₀) × (length block ≡ length block₀) × (length staged ≡ length staged₀)
+    × (length live ≡ length live₀) × (length gains ≡ length gains₀) × (length reply ≡ length reply₀) × (length out ≡ length out₀)
+
+abbrev μ-loop : tie.MeasureT-loop
+μ-loop window₀ kept₀ block₀ staged₀ live₀ gains₀ reply₀ out₀ s₀ turns₀ window kept block staged live gains reply out s turns =
+    turns
+
+-- src/main.rt:69:5
+loop-holds : tie.Need-loop-holds Inv-loop μ-loop
+loop-holds c = search needs
+
+-- src/main.rt:70:9
+one-window-requires : tie.Need-one-window-requires Inv-loop μ-loop
+one-window-requires c κs = search needs
+
+-- src/main.rt:71:9
+left-requires : tie.Need-left-requires Inv-loop μ-loop
+left-requires c κs = search needs
+
+-- src/main.rt:69:5
+loop-less : tie.Need-loop-less Inv-loop μ-loop
+loop-less c = search needs
+
+-- src/main.rt:69:5
+loop-again : tie.Need-loop-again Inv-loop μ-loop
+loop-again c = search needs
+
+-- src/main.rt:73:5
+close-requires : tie.Need-close-requires Inv-loop μ-loop
+close-requires c κs = search needs
+
+-- src/main.rt:52:1
+same-length : tie.Need-same-length Inv-loop μ-loop
+same-length c = search needs
+
+-- src/main.rt:52:1
+same-length-2 : tie.Need-same-length-2 Inv-loop μ-loop
+same-length-2 c = search needs
+
+-- src/main.rt:52:1
+same-length-3 : tie.Need-same-length-3 Inv-loop μ-loop
+same-length-3 c = search needs
+
+-- src/main.rt:52:1
+same-length-4 : tie.Need-same-length-4 Inv-loop μ-loop
+same-length-4 c = search needs
+
+-- src/main.rt:52:1
+same-length-5 : tie.Need-same-length-5 Inv-loop μ-loop
+same-length-5 c = search needs
+
+-- src/main.rt:52:1
+same-length-6 : tie.Need-same-length-6 Inv-loop μ-loop
+same-length-6 c = search needs
+
+-- src/main.rt:52:1
+same-length-7 : tie.Need-same-length-7 Inv-loop μ-loop
+same-length-7 c = search needs
+
+-- src/main.rt:52:1
+same-length-8 : tie.Need-same-length-8 Inv-loop μ-loop
+same-length-8 c = search needs
+
+-- src/main.rt:52:1
+returns : tie.Need-returns Inv-loop μ-loop
+returns c = search needs
+
+pub run-spec : {M : Type 1} → statement M
+run-spec =
+    tie.close
+    (tie.spec
+    Inv-loop
+    μ-loop
+    loop-holds
+    one-window-requires
+    left-requires
+    loop-less
+    loop-again
+    close-requires
+    same-length
+    same-length-2
+    same-length-3
+    same-length-4
+    same-length-5
+    same-length-6
+    same-length-7
+    same-length-8
+    returns)

@@ -1,0 +1,2 @@
+-- What the program carries from window to window.
+pub mod Played
