@@ -1,8 +1,11 @@
-//! Links the comparison programs with libvermolgas.a, from the folder in VERMOLGAS_LIB or where
-//! `rt staticlib vermolgas` writes it.
+//! Links the programs that call the C entries with libvermolgas.a, from the folder in VERMOLGAS_LIB or
+//! where `rt staticlib vermolgas` writes it. The others are built without it.
 
 use std::env;
 use std::path::PathBuf;
+
+const CALLERS: [&str; 5] =
+    ["compare_packets", "compare_sessions", "compare_planning", "bench_front_end", "bench_planning"];
 
 fn main() {
     let folder = env::var_os("VERMOLGAS_LIB").map_or_else(
@@ -12,5 +15,7 @@ fn main() {
     let library = folder.join("libvermolgas.a");
     println!("cargo:rerun-if-env-changed=VERMOLGAS_LIB");
     println!("cargo:rerun-if-changed={}", library.display());
-    println!("cargo:rustc-link-arg-bins={}", library.display());
+    for caller in CALLERS {
+        println!("cargo:rustc-link-arg-bin={caller}={}", library.display());
+    }
 }

@@ -4,6 +4,7 @@
 //! counts that fall short are failures.
 
 mod counts;
+mod fitting;
 mod generate;
 mod lending;
 #[allow(dead_code, reason = "each program calls some of the entries")]

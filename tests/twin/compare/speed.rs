@@ -7,6 +7,7 @@ mod generate;
 #[allow(dead_code, reason = "each program calls some of the entries")]
 mod library;
 mod measure;
+mod mixed;
 mod random;
 
 use std::hint::black_box;
@@ -15,11 +16,11 @@ use std::time::Instant;
 
 use library::LIBRARY;
 use measure::{side_by_side, REPETITIONS};
+use mixed::packet_of;
 use random::Random;
-use twin::command::{Direction, Opcode};
+use twin::command::Opcode;
 use twin::front_end::{self, Memory};
-use twin::packet::{self, Header, LONGEST};
-use twin::scripts::hex;
+use twin::packet::LONGEST;
 
 /// A repetition calls at least so often.
 const CALLS: usize = 20_000;
@@ -48,7 +49,7 @@ fn twin_call(packet: Option<&[u8]>, memory: &mut Memory, reply: &mut [u8; LONGES
 
 fn main() -> ExitCode {
     let mut random = Random::new(SEED);
-    let mixed = mixed_session(&mut random);
+    let mixed = mixed::session(&mut random);
     let map = packet_of(0x14, Opcode::Map, &[&[7, 0][..], &random.bytes(4 * 126)].concat());
     let cases = [
         ("mixed session", mixed.iter().map(|packet| Some(&packet[..])).collect()),
@@ -96,35 +97,6 @@ fn calls_a_second(call: Call, packets: &[Option<&[u8]>], memory: &mut Memory) ->
         }
     }
     (rounds * packets.len()) as f64 / start.elapsed().as_secs_f64()
-}
-
-/// Reads and writes of all opcodes with any options, on a full map, one in sixteen damaged.
-fn mixed_session(random: &mut Random) -> Vec<Vec<u8>> {
-    let mut session = Vec::new();
-    for _ in 0..4000 {
-        let (opcode, direction) = (random.pick(&Opcode::ALL), random.pick(&Direction::BOTH));
-        let header = 0x14 | random.byte() & 0x68 | if direction == Direction::Read { 0x80 } else { 0 };
-        let mut data = generate::data(random, opcode, direction, LONGEST - 6);
-        if let Some(place) = generate::start_place(opcode, direction) {
-            data[place].copy_from_slice(&(random.below(1700) as u16).to_le_bytes());
-        }
-        if (opcode, direction, data.first()) == (Opcode::ControlPoints, Direction::Write, Some(&0)) {
-            data = hex("00 3E 00 20 00");
-        }
-        let mut packet = packet_of(header, opcode, &data);
-        if random.below(16) == 0 {
-            let place = random.below(packet.len());
-            packet[place] ^= 0x55;
-        }
-        session.push(packet);
-    }
-    session
-}
-
-fn packet_of(header: u8, opcode: Opcode, data: &[u8]) -> Vec<u8> {
-    let mut buffer = [0; LONGEST];
-    let made = packet::make(Header::from_byte(header), opcode.number().into(), data, &mut buffer);
-    buffer[..made.expect("the command is sound")].to_vec()
 }
 
 /// The stack that an entry needs: it is called on a painted one, and what it has written is counted.

@@ -7,6 +7,7 @@ use twin::scripts::{hex, SCRIPTS};
 use twin::settings::GAINS;
 
 use crate::counts::{headers, OFTEN};
+use crate::fitting;
 use crate::generate;
 use crate::lending;
 use crate::recipe::{Packet, FAULTS};
@@ -63,19 +64,8 @@ fn start(session: &mut Session) {
 /// Sends a command that the state accepts.
 pub fn accepted(session: &mut Session, opcode: Opcode, direction: Direction, header: u8) {
     let room = LONGEST - Header::from_byte(header).options.overhead();
-    let mut data = generate::data(&mut session.random, opcode, direction, room);
-    let limit = limit(session, opcode);
-    if count(&data, opcode, direction) > limit {
-        match direction {
-            Direction::Write => data.truncate(2 + 4 * limit),
-            Direction::Read => data[2..].copy_from_slice(&(limit as u16).to_le_bytes()),
-        }
-    }
-    if let Some(place) = generate::start_place(opcode, direction) {
-        let last = limit - count(&data, opcode, direction);
-        let start = session.random.word_within(0..=last as u16);
-        data[place].copy_from_slice(&start.to_le_bytes());
-    }
+    let limit = fitting::limit(session.bytes(Part::Block), opcode);
+    let data = fitting::data(&mut session.random, opcode, direction, room, limit);
     let packet = Packet::new(header, opcode.number().into(), data).bytes();
     expect_status(session, &packet, 0);
 }
@@ -116,42 +106,14 @@ pub fn expect_status(session: &mut Session, packet: &[u8], due: u8) {
     session.expect(status == due, || format!("twin: {status}, not {due}: {}", report::hex(packet)));
 }
 
-/// What start + count may not pass, for this opcode.
-fn limit(session: &Session, opcode: Opcode) -> usize {
-    let block = session.bytes(Part::Block);
-    let word = |place| usize::from(u16::from_le_bytes([block[place], block[place + 1]]));
-    match opcode {
-        Opcode::Map => word(9) * word(11),
-        _ => GAINS,
-    }
-}
-
-/// The entries that a 34h or 2Bh command is about; 0 for other commands.
-fn count(data: &[u8], opcode: Opcode, direction: Direction) -> usize {
-    let word = |place| usize::from(u16::from_le_bytes([data[place], data[place + 1]]));
-    match (opcode, direction) {
-        (Opcode::Map, Direction::Write) => data.len() / 4,
-        (Opcode::Map, Direction::Read) | (Opcode::Gains, Direction::Write) => word(2),
-        (Opcode::Gains, Direction::Read) => word(3),
-        _ => 0,
-    }
-}
-
-/// Sends a 34h or 2Bh command whose start + count goes past the end of the table: by one, by more,
-/// or so that a sum in 16 bits wraps.
+/// Sends a 34h or 2Bh command whose start + count goes past the end of the table.
 fn past_table(session: &mut Session) {
     let random = &mut session.random;
     let (opcode, direction) = (random.pick(&[Opcode::Map, Opcode::Gains]), random.pick(&Direction::BOTH));
     let mut packet = Packet::of(random, opcode, direction);
-    let count = count(&packet.data, opcode, direction);
-    let least = (limit(session, opcode) + 1).saturating_sub(count);
-    let random = &mut session.random;
-    let start = match random.below(4) {
-        0 => least as u16,
-        1 => (0x1_0000 - count) as u16,
-        2 => u16::MAX,
-        _ => random.word_within(least as u16..=u16::MAX),
-    };
+    let limit = fitting::limit(session.bytes(Part::Block), opcode);
+    let count = fitting::count(&packet.data, opcode, direction);
+    let start = fitting::past_start(&mut session.random, count, limit);
     let place = generate::start_place(opcode, direction).expect("both have a start");
     packet.data[place].copy_from_slice(&start.to_le_bytes());
     expect_status(session, &packet.bytes(), Refusal::PastTable.number());

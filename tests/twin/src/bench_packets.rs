@@ -75,6 +75,13 @@ fn bench_packets_read() {
 }
 
 #[test]
+fn hex_repeats_and_counts() {
+    assert_eq!(hex("0A 00FF*2 7F*0 B0"), [0x0A, 0x00, 0xFF, 0x00, 0xFF, 0xB0]);
+    assert_eq!(hex("1..7/3 255..256"), [1, 0, 4, 0, 7, 0, 0xFF, 0, 0, 1]);
+    assert_eq!(hex(""), []);
+}
+
+#[test]
 fn scripts_give_their_answers() {
     for script in SCRIPTS {
         let mut memory = Memory::default();

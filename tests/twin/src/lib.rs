@@ -1,8 +1,8 @@
 //! A plain Rust twin of the rules in docs/RULES.md.
 //!
 //! It is written from that page as typed commands and settings, and takes no code, table or constant
-//! from the proved library. The programs in `compare/` hold the two against each other through the C
-//! entries.
+//! from the proved library. The programs in `compare/` hold the two against each other: through the C
+//! entries, and replays by what they print.
 //!
 //! - [`command`]: the eighteen commands, their data sizes and ranges (refusals 9, 10 and 11);
 //! - [`packet`]: reading (refusals 2 to 11) and making;
@@ -11,6 +11,7 @@
 //! - [`block`]: the layout of the settings block, both ways (refusal 1);
 //! - [`front_end`]: one packet on what a host lends (refusals 1 and 12, effects, the reply), and reset;
 //! - [`planner`]: upload planning (refusals 10 and 1, plan, room and batch);
+//! - [`replay`]: session files, and what a replay prints;
 //! - [`scripts`]: sessions by hand, each packet with its answer.
 
 #[cfg(test)]
@@ -22,6 +23,7 @@ pub mod front_end;
 pub mod packet;
 pub mod planner;
 pub mod refusal;
+pub mod replay;
 pub mod reply;
 pub mod scripts;
 pub mod settings;
