@@ -3,15 +3,29 @@
  *
  * Each packet (>) and each reply (<) is printed in hex. In the field a bus lies between host and controller; here
  * exchange() hands the packet straight to the front end.
+ *
+ *     host --record FILE
+ *
+ * also writes the packets to FILE, as a session file (docs/RULES.md, section 9) for target/bin/replay. The exit status
+ * is 2 for wrong arguments, 1 if anything else went wrong.
  */
 #include "vermolgas_device.h"
 
+#include <errno.h>
 #include <stdio.h>
 #include <stdlib.h>
 #include <string.h>
 
 static struct vermolgas_device device;
 static struct vermolgas_upload upload;
+
+/* A session file of the packets sent. */
+static struct {
+    const char *name;
+    FILE *file; /* NULL if nothing is recorded */
+} recording;
+
+enum { BAD_USAGE = 2 };
 
 /* Writes carry a length, and ask for a reply; both ways a checksum goes along. */
 #define WRITE (VERMOLGAS_OPTION_LENGTH | VERMOLGAS_OPTIONS_CHECKED)
@@ -24,8 +38,48 @@ static struct vermolgas_upload upload;
 #define POINTS(...)      ITEMS(struct vermolgas_point, __VA_ARGS__)
 #define POINT(x, y)      {8 * (x), 8 * (y)}
 
-/* A number of 32 bits as data bytes, low byte first. */
-#define U32(n) (n) & 0xFF, (n) >> 8 & 0xFF, (n) >> 16 & 0xFF, (n) >> 24 & 0xFF
+/* Numbers of 16 and 32 bits as data bytes, low byte first. */
+#define U16(n) (n) & 0xFF, (n) >> 8 & 0xFF
+#define U32(n) U16(n), U16((n) >> 16)
+
+/* Ends the program, and so the session: what can't be recorded isn't sent. */
+static _Noreturn void stop_recording(const char *what, const char *why)
+{
+    fprintf(stderr, "recording '%s': %s: %s\n", recording.name, what, why);
+    exit(EXIT_FAILURE);
+}
+
+/* Bytes go to the file at once, so that it has them whatever becomes of this program. */
+static void record_bytes(const uint8_t *bytes, size_t length)
+{
+    if (fwrite(bytes, 1, length, recording.file) != length || fflush(recording.file) != 0)
+        stop_recording("can't be written", strerror(errno));
+}
+
+static void begin_recording(const char *name)
+{
+    recording.name = name;
+    recording.file = fopen(name, "wb");
+    if (recording.file == NULL)
+        stop_recording("can't be opened", strerror(errno));
+    record_bytes(DATA('P', 'J', 'L', U16(1))); /* mark and version */
+}
+
+static void record_packet(const uint8_t *packet, size_t length)
+{
+    if (recording.file == NULL)
+        return;
+    if (length > UINT16_MAX)
+        stop_recording("a packet can't be recorded", "it is longer than 65535 bytes");
+    record_bytes(DATA(U16(length)));
+    record_bytes(packet, length);
+}
+
+static void end_recording(void)
+{
+    if (recording.file != NULL && fclose(recording.file) != 0)
+        stop_recording("can't be written", strerror(errno));
+}
 
 static void print_hex(char direction, const uint8_t *bytes, size_t length)
 {
@@ -37,11 +91,13 @@ static void print_hex(char direction, const uint8_t *bytes, size_t length)
     printf("\n");
 }
 
-/* Sends a packet, and prints it and its reply. */
+/* Sends a packet, and prints it and its reply. Nothing else changes the device after reset, so that a recording tells
+ * all of it. */
 static void exchange(const uint8_t *packet, size_t length)
 {
     struct vermolgas_reply reply;
 
+    record_packet(packet, length);
     print_hex('>', packet, length);
     struct vermolgas_result result = vermolgas_device_send(&device, packet, length, &reply);
     if (result.reply_length == 0) {
@@ -162,7 +218,8 @@ static int send_map(void)
     return EXIT_SUCCESS;
 }
 
-int main(void)
+/* The whole session, from reset on. */
+static int run_session(void)
 {
     unsigned status = vermolgas_device_reset(&device);
     if (status != VERMOLGAS_ACCEPTED) {
@@ -195,4 +252,17 @@ int main(void)
     exchange(DATA(0x74, 0x11, 0x01, 0x00, 0x03, 0x87));
     command("11h: what is shown?", vermolgas_make_read(VERMOLGAS_OP_DISPLAY, READ));
     return EXIT_SUCCESS;
+}
+
+int main(int arguments, char **argument)
+{
+    if (arguments == 3 && strcmp(argument[1], "--record") == 0) {
+        begin_recording(argument[2]);
+    } else if (arguments != 1) {
+        fprintf(stderr, "usage: host [--record FILE]\n");
+        return BAD_USAGE;
+    }
+    int status = run_session();
+    end_recording();
+    return status;
 }
