@@ -1,23 +1,26 @@
--- Each step goes on in the script, and no lent list changes its length.
+-- No lent list changes its length.
 use Prim.Native.Nat.{_-_}
 use mathlib.Core.Path.{_≡_}
 use lib.ListN.{length}
 use borrow.Author.Needs.{needs}
-use Rattle.session.proofs.run.Statement.{statement}
-use Rattle.session.proofs.run.Tie as tie
+use Rattle.lent.proofs.run.Statement.{statement}
+use Rattle.lent.proofs.run.Tie as tie
 
 abbrev Inv-loop : tie.InvT-loop
-Inv-loop script block₀ staged₀ live₀ gains₀ reply₀ at₀ block staged live gains reply at =
+Inv-loop block₀ staged₀ live₀ gains₀ reply₀ i₀ block staged live gains reply i =
     (length block ≡ length block₀) × (length staged ≡ length staged₀) × (length live ≡ length live₀) × (length gains ≡ length gains₀) × (length reply ≡ length reply₀)
 
 abbrev μ-loop : tie.MeasureT-loop
-μ-loop script block₀ staged₀ live₀ gains₀ reply₀ at₀ block staged live gains reply at = length script - at
+μ-loop block₀ staged₀ live₀ gains₀ reply₀ i₀ block staged live gains reply i = 13 - i
 
 loop-holds : tie.Need-loop-holds Inv-loop μ-loop
 loop-holds c = search needs
 
-take-step-requires : tie.Need-take-step-requires Inv-loop μ-loop
-take-step-requires c κs = search needs
+step-requires : tie.Need-step-requires Inv-loop μ-loop
+step-requires c κs = search needs
+
+add-i : tie.Need-add-i Inv-loop μ-loop
+add-i c = search needs
 
 loop-less : tie.Need-loop-less Inv-loop μ-loop
 loop-less c = search needs
@@ -50,7 +53,8 @@ run-spec =
     Inv-loop
     μ-loop
     loop-holds
-    take-step-requires
+    step-requires
+    add-i
     loop-less
     loop-again
     same-length

@@ -1,8 +1,8 @@
 -- Each part is as long as it is lent.
 use lib.Seq.{length-take-le}
 use borrow.Author.Needs.{needs}
-use Rattle.session.proofs.reset_part.Statement.{statement}
-use Rattle.session.proofs.reset_part.Tie as tie
+use Rattle.lent.proofs.reset_part.Statement.{statement}
+use Rattle.lent.proofs.reset_part.Tie as tie
 
 returns : tie.Need-returns
 returns c = search needs
