@@ -3,7 +3,7 @@
 use std::fs::{self, File};
 use std::io::{self, BufRead, BufReader, Read, Write};
 use std::os::fd::OwnedFd;
-use std::os::unix::net::UnixStream;
+use std::os::unix::net::{UnixDatagram, UnixStream};
 use std::process::{Child, Stdio};
 use std::sync::atomic::{AtomicU64, Ordering};
 use std::sync::mpsc;
@@ -113,6 +113,36 @@ fn on_full_device(comparison: &Comparison, file: &[u8]) -> Result<Outcome, Strin
             program::finish(&mut child)
         });
         Ok(outcome)
+    };
+    run().map_err(|error: io::Error| error.to_string())?
+}
+
+/// An output that refuses the lines, as they are too long for it, and would take a shorter one: behind a
+/// write that failed nothing is written (rule 9.7).
+pub fn fails_once(comparison: &mut Comparison) {
+    let file = session(&vec![hex("84 11"); 1000]);
+    let outcome = on_narrow_output(comparison, &file);
+    let input = || "an output that fails once".to_string();
+    let received = outcome.as_ref().map_or(0, |(_, received)| *received);
+    expect_ended(comparison, outcome.map(|(outcome, _)| outcome), false, input);
+    comparison.report.expect(received == 0, || format!("writes on: {}", input()));
+}
+
+/// Runs it with a socket for its output that takes a few thousand bytes at once, and gives how many
+/// bytes came through.
+fn on_narrow_output(comparison: &Comparison, file: &[u8]) -> Result<(Outcome, usize), String> {
+    let run = || {
+        let (theirs, ours) = UnixDatagram::pair()?;
+        program::narrow(&theirs)?;
+        ours.set_nonblocking(true)?;
+        let mut child = comparison.program.start(Stdio::piped(), OwnedFd::from(theirs).into())?;
+        let mut pipe = child.stdin.take().expect("the input is a pipe");
+        // It may end ahead of the file, which fits into the pipe.
+        pipe.write_all(file).unwrap_or_default();
+        drop(pipe);
+        let outcome = program::finish(&mut child);
+        let received = ours.recv(&mut [0; 1 << 16]).unwrap_or(0);
+        Ok(outcome.map(|outcome| (outcome, received)))
     };
     run().map_err(|error: io::Error| error.to_string())?
 }

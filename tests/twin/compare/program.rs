@@ -1,10 +1,11 @@
 //! The replay as a program: how a file is handed to it, and what it does.
 
 use std::env;
-use std::ffi::{c_int, c_ulong};
+use std::ffi::{c_int, c_uint, c_ulong};
 use std::fs::{self, File};
 use std::io::{self, Read, Write};
 use std::os::fd::AsRawFd;
+use std::os::unix::net::UnixDatagram;
 use std::os::unix::process::ExitStatusExt;
 use std::path::PathBuf;
 use std::process::{self, Child, ChildStdin, Command, ExitStatus, Stdio};
@@ -164,6 +165,30 @@ fn unread(pipe: &ChildStdin) -> io::Result<c_int> {
     match unsafe { ioctl(pipe.as_raw_fd(), FIONREAD, &mut count as *mut c_int) } {
         0 => Ok(count),
         _ => Err(io::Error::last_os_error()),
+    }
+}
+
+/// Lets a socket take no more than a few thousand bytes at once.
+pub fn narrow(socket: &UnixDatagram) -> io::Result<()> {
+    extern "C" {
+        fn setsockopt(
+            descriptor: c_int,
+            level: c_int,
+            option: c_int,
+            value: *const c_int,
+            length: c_uint,
+        ) -> c_int;
+    }
+    /// On Linux.
+    const SOL_SOCKET: c_int = 1;
+    const SO_SNDBUF: c_int = 7;
+    let size: c_int = 4096;
+    // SAFETY: the descriptor is open, and one int of the length given is read.
+    let status = unsafe { setsockopt(socket.as_raw_fd(), SOL_SOCKET, SO_SNDBUF, &size, 4) };
+    if status == 0 {
+        Ok(())
+    } else {
+        Err(io::Error::last_os_error())
     }
 }
 

@@ -61,6 +61,7 @@ fn main() -> ExitCode {
     comparison.group("an endless input", failing::endless_zeros);
     comparison.group("unreadable inputs", failing::unreadable);
     comparison.group("a full device", failing::full_device);
+    comparison.group("an output that fails once", failing::fails_once);
     comparison.group("a reader that has gone", failing::reader_gone);
     comparison.group("lines as they are made", failing::as_it_is_made);
     comparison.group("fixed memory", failing::fixed_memory);
