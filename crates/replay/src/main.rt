@@ -11,7 +11,7 @@ ghost use Prim.Native.Nat.{_+_, _<_};
 ghost use mathlib.Core.Path.{_≡_};
 ghost use Rattle.controller.specs.State.{state};
 ghost use Rattle.playback.specs.Windows.{progress as progressAt};
-ghost use Rattle.replay.specs.Played.{PlayedSome, Played};
+ghost use Rattle.replay.specs.Played.{PlayedSome, Played, wayOf};
 
 // As much as a pipe holds.
 const WINDOW_SIZE: usize = 65536;
@@ -112,7 +112,7 @@ fn one_window(
         marked: p.marked,
         number: p.number,
         have: p.have,
-        how: way(got, n, p),
+        how: way(got < 0, n, p),
     }
 }
 
@@ -129,10 +129,12 @@ fn progress(s: Stand) -> Progress
     }
 }
 
-// How it goes on after a read that answered `got`, of whose n bytes those up to p.at were replayed and their lines written. A file that is no session
+// How it goes on after a read that failed, or gave n bytes of which those up to p.at were replayed and their lines written. A file that is no session
 // need not be read to its end.
-fn way(got: isize, n: usize, p: Progress) -> usize {
-    if got < 0 {
+fn way(failed: bool, n: usize, p: Progress) -> usize
+    ensures { λ r. ⌜ r ≡ wayOf failed n p ⌝ }
+{
+    if failed {
         return UNREADABLE;
     }
     if p.at != n {
