@@ -28,8 +28,8 @@ pub struct Progress {
     pub have: usize,
 }
 
-// Replays a window from its start, behind what came before it, and prints over the start of the output. Takes all of the window, unless the output
-// is full before.
+// Replays a window from its start, behind what came before it, and prints over the start of the output. Takes all of the window, unless before its end the
+// output is full or no more records can be counted; nothing, where a room is too short.
 pub fn replay(
     window: &[u8],
     from: Progress,
