@@ -4,7 +4,7 @@ use mathlib.Core.Path.{_≡_, refl, ap, _∙_}
 use mathlib.Core.Bool.{Bool, true, false, _&&_}
 use mathlib.Core.List.{List, [], _∷_}
 use lib.Dec.{T, eqb, eqb→eq}
-use Rattle.wire.specs.Checksum.{total, checksum}
+use Rattle.wire.specs.Checksum.{checksum}
 use Rattle.wire.specs.Buffers.{over}
 use Rattle.opcode.proofs.Table.{and-left, and-right}
 use Rattle.opcode.specs.Fields.{fault, wordsAt, riseFrom, rise, firstLarge}
@@ -68,7 +68,7 @@ allHold [] = true
 allHold (r ∷ rs) = holds r && allHold rs
 
 all-hold : T (allHold rows)
-unfolding total checksum over fault wordsAt riseFrom rise firstLarge commandOf judgement pointsSizeWrong gainsSizeWrong controlSizeWrong smoothSizeWrong sizeWrong gainsFault listsFault controlFault smoothFault valueFault replyBytes placeOf pictureFields deviceFields right shapeRight settingsRight resetShape resetBlock resetMap resetGains stopped writeGains readGains readPoints shapeBytes writeShape readShape applyBlock applyLive writeSmooth readSmooth blockAfter written blockBack dataBack runsPast numberOf replyTo step stateAfterAll packetOf differs best rooms more planFrom planOf packetFor packetsOf joined batchOf planNumbers planned
+unfolding checksum over fault wordsAt riseFrom rise firstLarge commandOf judgement pointsSizeWrong gainsSizeWrong controlSizeWrong smoothSizeWrong sizeWrong gainsFault listsFault controlFault smoothFault valueFault replyBytes placeOf pictureFields deviceFields right shapeRight settingsRight resetShape resetBlock resetMap resetGains stopped writeGains readGains readPoints shapeBytes writeShape readShape applyBlock applyLive writeSmooth readSmooth blockAfter written blockBack dataBack runsPast numberOf replyTo step stateAfterAll packetOf differs best rooms more planFrom planOf packetFor packetsOf joined batchOf planNumbers planned
 all-hold = tt
 
 -- ---- What it tells.

@@ -20,18 +20,16 @@ pub word-past : (s : List ℕ) (i : ℕ) → length s ≤ i → wordAt s i ≡ 0
 word-past s i h = omega (arith, byte-past s i h, byte-past s (i + 1) (omega arith))
 
 pub total-append : (s t : List ℕ) → total (s ++ t) ≡ total s + total t
-unfolding total
 total-append [] t = omega arith
 total-append (x ∷ s) t = omega (arith, total-append s t)
 
 -- One byte more.
 pub total-turn : (s : List ℕ) (i : ℕ) → i < length s → total (take (i + 1) s) ≡ total (take i s) + getD s i 0
-unfolding total
 total-turn s i h = rw (add-one, take-suc s i 0, total-append) (omega arith)
 
 -- The loop that sums: where it begins, and a turn.
 pub checksum-none : (s : List ℕ) → 0 ≡ checksum (take 0 s)
-unfolding total checksum
+unfolding checksum
 checksum-none s = refl
 
 pub checksum-turn : (s : List ℕ) (i : ℕ) → i < length s → (checksum (take i s) + getD s i 0) % 256 ≡ checksum (take (i + 1) s)

@@ -1,7 +1,7 @@
 -- Each theorem of the list, where it is proved.
 use mathlib.Core.Path.{refl}
 use native.Mathlib.Omega.{arith}
-use Rattle.wire.specs.Checksum.{total, checksum}
+use Rattle.wire.specs.Checksum.{checksum}
 use Rattle.controller.proofs.Demands.{runs, right-running}
 use Rattle.controller.proofs.Live.{live-kept}
 use Rattle.upload.proofs.Least.{room-packet}
@@ -13,7 +13,7 @@ use Rattle.delivery.proofs.theorems.Statement.{statement}
 use Rattle.delivery.proofs.theorems.Tie as tie
 
 returns : tie.Need-returns
-unfolding total checksum
+unfolding checksum
 returns c =
     record {
       live-kept = live-kept;
