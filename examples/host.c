@@ -249,7 +249,7 @@ static int run_session(void)
     command("11h: there is no display 5", vermolgas_make_display((enum vermolgas_display)5, WRITE));
     command("34h: the map has no point 6", vermolgas_make_points(6, POINTS(POINT(0, 0)), WRITE));
     printf("11h: a packet with a bit flipped on the way\n");
-    exchange(DATA(0x74, 0x11, 0x01, 0x00, 0x03, 0x87));
+    exchange(DATA(0x74, 0x11, 0x01, 0x00, 0x03, 0x8C));
     command("11h: what is shown?", vermolgas_make_read(VERMOLGAS_OP_DISPLAY, READ));
     return EXIT_SUCCESS;
 }

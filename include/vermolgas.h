@@ -27,7 +27,7 @@
 
 /* The version, and as one number to compare with: 1.2.3 is 10203. */
 #define VERMOLGAS_VERSION_MAJOR 0
-#define VERMOLGAS_VERSION_MINOR 1
+#define VERMOLGAS_VERSION_MINOR 2
 #define VERMOLGAS_VERSION_PATCH 0
 #define VERMOLGAS_VERSION                                                                                             \
     (10000 * VERMOLGAS_VERSION_MAJOR + 100 * VERMOLGAS_VERSION_MINOR + VERMOLGAS_VERSION_PATCH)
@@ -230,9 +230,12 @@ VERMOLGAS_ENUM(vermolgas_uart_source) { VERMOLGAS_UART_SOURCE_RXD = 0, VERMOLGAS
 /* Header bits, in place: what VERMOLGAS_READ_OPTIONS gives and vermolgas_make takes. */
 #define VERMOLGAS_OPTION_TWO_BYTE_OPCODE 0x08
 #define VERMOLGAS_OPTION_LENGTH          0x10 /* the packet has a length field */
-#define VERMOLGAS_OPTION_CHECKSUM        0x20 /* packet and reply have a checksum */
+#define VERMOLGAS_OPTION_CHECKSUM        0x20 /* packet and reply have a checksum, see below */
 #define VERMOLGAS_OPTION_REPLY           0x40 /* a write is to be replied to */
 #define VERMOLGAS_OPTION_READ            0x80 /* a read; else a write */
+
+/* The checksum is the low byte of the second of two sums over all bytes before it, both 0 at first: a step adds a byte
+ * to the first sum, and the first sum to the second. The entries write it and compare it. */
 
 /* Some bits of an answer. One that was kept in fewer than 64 bits, in an int say, has lost some of them and does not
  * compile here: the array would have a negative size. */

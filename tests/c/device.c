@@ -233,7 +233,7 @@ static void sending(void)
     result = send_bytes(2, 0x84, 0x11, 0, 0);
     CHECK(result.status == VERMOLGAS_ACCEPTED && result.reply_length == 4);
     CHECK(result.data == reply.bytes + 3 && bytes_are(result.data, result.data_length, "01"));
-    result = send_bytes(3, 0xA4, 0x11, 0xB5, 0);
+    result = send_bytes(3, 0xA4, 0x11, 0x59, 0);
     CHECK(result.status == VERMOLGAS_ACCEPTED && result.reply_length == 5);
     CHECK(bytes_are(result.data, result.data_length, "01"));
     result = send_bytes(3, 0x44, 0x11, 0x02, 0);
@@ -273,7 +273,7 @@ static void replies(void)
     result = read_hex("00 00 00 00", true);
     CHECK(result.line_status == VERMOLGAS_ACCEPTED && result.device_status == VERMOLGAS_ACCEPTED);
     CHECK(result.data == NULL && result.data_length == 0);
-    result = read_hex("0C 00 00 0C", true);
+    result = read_hex("0C 00 00 24", true);
     CHECK(result.line_status == VERMOLGAS_ACCEPTED && result.device_status == VERMOLGAS_REFUSED_PAST_TABLE);
     CHECK(result.data == NULL && result.data_length == 0);
     result = read_hex("0A 02 00 04 00", false); /* data of a refusal is no data of a read */
@@ -281,6 +281,8 @@ static void replies(void)
     CHECK(result.data == NULL && result.data_length == 0);
 
     /* What is no reply is nowhere an accepted one. */
+    result = read_hex("0C 00 00 0C", true);
+    CHECK(result.line_status == VERMOLGAS_REFUSED_CHECKSUM && result.device_status == VERMOLGAS_REFUSED_CHECKSUM);
     result = read_hex("00 00 00 01", true);
     CHECK(result.line_status == VERMOLGAS_REFUSED_CHECKSUM && result.device_status == VERMOLGAS_REFUSED_CHECKSUM);
     result = read_hex("00 00", false);
@@ -301,7 +303,7 @@ static void makers(void)
     points[1] = point_at(0x1234, 0xFFFF);
 
     CHECK_MADE(vermolgas_make_display(VERMOLGAS_DISPLAY_TEST_PATTERN, 0), "04 11 01");
-    CHECK_MADE(vermolgas_make_display(VERMOLGAS_DISPLAY_TEST_PATTERN, VERMOLGAS_OPTIONS_CHECKED), "64 11 01 76");
+    CHECK_MADE(vermolgas_make_display(VERMOLGAS_DISPLAY_TEST_PATTERN, VERMOLGAS_OPTIONS_CHECKED), "64 11 01 4F");
     CHECK_MADE(vermolgas_make_low_latency(true, 0), "04 12 01");
     CHECK_MADE(vermolgas_make_low_latency(false, 0), "04 12 00");
     CHECK_MADE(vermolgas_make_look(0xFFFE, 0), "04 13 FE FF");
@@ -480,7 +482,7 @@ static void checked_uploads(void)
         CHECK(result.status == VERMOLGAS_ACCEPTED && result.reply_length == 4);
     }
     CHECK(walk.status == VERMOLGAS_ACCEPTED && memcmp(device.staged, upload.wanted, sizeof device.staged) == 0);
-    CHECK_MADE(vermolgas_make_checked(other, sizeof other), "E4 60 0C 50");
+    CHECK_MADE(vermolgas_make_checked(other, sizeof other), "E4 60 0C 78");
     CHECK_REFUSED(vermolgas_make_checked(other, 2), VERMOLGAS_REFUSED_SIZE);
     CHECK_REFUSED(vermolgas_make_checked(NULL, 3), VERMOLGAS_REFUSED_LENT);
     CHECK(longest.length == VERMOLGAS_LONGEST);

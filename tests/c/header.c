@@ -62,7 +62,7 @@ static void send_packets(void)
     CHECK(memcmp(lent.staged + 4 * 1983, (const uint8_t[]){0x01, 0x00, 0x02, 0x00}, 4) == 0);
     CHECK(send(BYTES(0x14, 0x2B, 0x08, 0x00, 0x00, 0x01, 0x01, 0x00, 0xDF, 0x07, 0x00, 0x14)) == replied(0));
     CHECK(lent.gains[2 * 2015] == 0x00 && lent.gains[2 * 2015 + 1] == 0x14);
-    CHECK(send(BYTES(0xA4, 0x34, 0x00, 0x00, 0x7F, 0x00, 0x57)) == replied(VERMOLGAS_LONGEST));
+    CHECK(send(BYTES(0xA4, 0x34, 0x00, 0x00, 0x7F, 0x00, 0xDA)) == replied(VERMOLGAS_LONGEST));
 }
 
 static void refuse_sent_packets(void)
@@ -70,6 +70,7 @@ static void refuse_sent_packets(void)
     CHECK(vermolgas_reset(LENT) == VERMOLGAS_ACCEPTED);
     CHECK(send(NULL, 0) == VERMOLGAS_REFUSED_TOO_SHORT);
     CHECK(send(BYTES(0x60)) == (VERMOLGAS_REFUSED_TOO_SHORT | replied(4)));
+    CHECK(memcmp(lent.reply, (const uint8_t[]){0x02, 0x00, 0x00, 0x06}, 4) == 0);
     CHECK(send(BYTES(0x04, 0x11, 0x05)) == VERMOLGAS_REFUSED_RANGE);
     CHECK(send(BYTES(0x14, 0x34, 0x06, 0x00, 0xC0, 0x07, 0x01, 0x00, 0x02, 0x00)) == VERMOLGAS_REFUSED_PAST_TABLE);
 
@@ -109,7 +110,7 @@ static void read_packets(void)
     CHECK(VERMOLGAS_READ_OPTIONS(read) == VERMOLGAS_OPTION_READ);
     CHECK(VERMOLGAS_READ_LENGTH(read) == 0);
 
-    uint64_t asking = vermolgas_read(BYTES(0x64, 0x11, 0x01, 0x76));
+    uint64_t asking = vermolgas_read(BYTES(0x64, 0x11, 0x01, 0x4F));
     CHECK(VERMOLGAS_READ_OPTIONS(asking) == (VERMOLGAS_OPTION_CHECKSUM | VERMOLGAS_OPTION_REPLY));
 }
 
@@ -118,7 +119,7 @@ static void refuse_packets(void)
     CHECK(vermolgas_read(NULL, 0) == VERMOLGAS_REFUSED_TOO_SHORT);
     CHECK(vermolgas_read(BYTES(0x24, 0x11)) == VERMOLGAS_REFUSED_TOO_SHORT);
     CHECK(vermolgas_read(BYTES(0x14, 0x11, 0x02, 0x00, 0x01)) == VERMOLGAS_REFUSED_LENGTH);
-    CHECK(vermolgas_read(BYTES(0x24, 0x11, 0x01, 0x37)) == VERMOLGAS_REFUSED_CHECKSUM);
+    CHECK(vermolgas_read(BYTES(0x24, 0x11, 0x01, 0x36)) == VERMOLGAS_REFUSED_CHECKSUM);
     CHECK(vermolgas_read(BYTES(0x03, 0x11, 0x01)) == VERMOLGAS_REFUSED_DESTINATION);
     CHECK(vermolgas_read(BYTES(0x0C, 0x11, 0x01, 0x01)) == VERMOLGAS_REFUSED_OPCODE);
     CHECK(vermolgas_read(BYTES(0x04, 0x34, 0x00, 0x00, 0x08, 0x00, 0x10, 0x00)) == VERMOLGAS_REFUSED_LENGTH_MISSING);
@@ -145,12 +146,56 @@ static void make_packets(void)
     uint64_t made = vermolgas_make(0x11, VERMOLGAS_OPTION_CHECKSUM, BYTES(0x01), buffer, sizeof buffer);
     CHECK(VERMOLGAS_STATUS(made) == VERMOLGAS_ACCEPTED);
     CHECK(VERMOLGAS_MAKE_LENGTH(made) == 4);
-    CHECK(memcmp(buffer, (const uint8_t[]){0x24, 0x11, 0x01, 0x36}, 4) == 0);
+    CHECK(memcmp(buffer, (const uint8_t[]){0x24, 0x11, 0x01, 0x8F}, 4) == 0);
     CHECK(memcmp(buffer + 4, untouched + 4, sizeof buffer - 4) == 0);
 
     made = vermolgas_make(0x11, VERMOLGAS_OPTION_READ, NULL, 0, buffer, sizeof buffer);
     CHECK(VERMOLGAS_MAKE_LENGTH(made) == 2);
     CHECK(memcmp(buffer, (const uint8_t[]){0x84, 0x11}, 2) == 0);
+}
+
+/* The checksum as docs/INTERFACE.md shows it. */
+static uint8_t checksum_of(const uint8_t *bytes, size_t length)
+{
+    uint32_t first = 0, second = 0;
+    for (size_t i = 0; i < length; i++) {
+        first += bytes[i];
+        second += first;
+    }
+    return second & 0xFF;
+}
+
+/* A write of red gains, made, sent, and sent again with another checksum. */
+static void send_checked(uint8_t gains, uint8_t options)
+{
+    uint8_t data[6 + 2 * 250] = {0, VERMOLGAS_GAIN_RED, gains}, buffer[VERMOLGAS_LONGEST];
+    for (size_t i = 6; i < sizeof data; i++)
+        data[i] = i % 2 ? 0x1F : (uint8_t)(37 * i);
+
+    uint64_t made = vermolgas_make(0x2B, options | VERMOLGAS_OPTION_LENGTH | VERMOLGAS_OPTION_CHECKSUM, data,
+                                   6 + 2 * (size_t)gains, buffer, sizeof buffer);
+    size_t length = VERMOLGAS_MAKE_LENGTH(made);
+    CHECK(length == (options ? 12 : 11) + 2 * (size_t)gains);
+    CHECK(buffer[length - 1] == checksum_of(buffer, length - 1));
+    CHECK(send(buffer, length) == replied(0));
+    buffer[length - 1] ^= 1;
+    CHECK(send(buffer, length) == VERMOLGAS_REFUSED_CHECKSUM);
+}
+
+/* Packets of every length from 13 to 512, and a reply of 512 bytes. */
+static void compare_checksums(void)
+{
+    CHECK(vermolgas_reset(LENT) == VERMOLGAS_ACCEPTED);
+    for (uint8_t gains = 1; gains <= 250; gains++) {
+        send_checked(gains, 0);
+        send_checked(gains, VERMOLGAS_OPTION_TWO_BYTE_OPCODE);
+    }
+
+    uint8_t buffer[VERMOLGAS_LONGEST];
+    uint64_t ask = vermolgas_make(0x34, VERMOLGAS_OPTION_READ | VERMOLGAS_OPTION_CHECKSUM,
+                                  BYTES(0x00, 0x00, 0x7F, 0x00), buffer, sizeof buffer);
+    CHECK(send(buffer, VERMOLGAS_MAKE_LENGTH(ask)) == replied(VERMOLGAS_LONGEST));
+    CHECK(lent.reply[VERMOLGAS_LONGEST - 1] == checksum_of(lent.reply, VERMOLGAS_LONGEST - 1));
 }
 
 static void read_replies(void)
@@ -160,7 +205,7 @@ static void read_replies(void)
     CHECK(VERMOLGAS_REPLY_STATUS(display) == 0);
     CHECK(VERMOLGAS_REPLY_LENGTH(display) == 1);
 
-    uint64_t refused = vermolgas_read_reply(BYTES(0x0C, 0x00, 0x00, 0x0C), 1);
+    uint64_t refused = vermolgas_read_reply(BYTES(0x0C, 0x00, 0x00, 0x24), 1);
     CHECK(VERMOLGAS_STATUS(refused) == VERMOLGAS_ACCEPTED);
     CHECK(VERMOLGAS_REPLY_STATUS(refused) == VERMOLGAS_REFUSED_PAST_TABLE);
     CHECK(VERMOLGAS_REPLY_LENGTH(refused) == 0);
@@ -248,9 +293,9 @@ static void plan_uploads(void)
 }
 
 static const struct group groups[] = {
-    {"reset", reset_controllers}, {"packets", send_packets},        {"packets refused", refuse_sent_packets},
+    {"reset", reset_controllers}, {"packets", send_packets},           {"packets refused", refuse_sent_packets},
     {"reading", read_packets},    {"reading refused", refuse_packets}, {"making", make_packets},
-    {"replies", read_replies},    {"plans", plan_uploads},
+    {"replies", read_replies},    {"checksums", compare_checksums},    {"plans", plan_uploads},
 };
 
 int main(void)

@@ -11,8 +11,8 @@ fn main() {
     present(b"\x84\x11");
     present(b"\x44\x11\x01");
     present(b"\x0C\x11\x00\x01");
+    present(b"\x24\x11\x01\x8F");
     present(b"\x24\x11\x01\x36");
-    present(b"\x24\x11\x01\x37");
     present(b"\x03\x11\x01");
     present(b"\x14\x11\x02\x00\x01");
     present(b"\x04\x11\x05");

@@ -102,11 +102,11 @@ rows =
     ∷ row (0x44 ∷ 0x11 ∷ 0x01 ∷ []) 0 (0x00 ∷ 0x00 ∷ 0x00 ∷ []) (withSetting 0 1)
     -- * `0C 11 00 01`: accepted as `04 11 01`.
     ∷ row (0x0C ∷ 0x11 ∷ 0x00 ∷ 0x01 ∷ []) 0 [] (withSetting 0 1)
-    -- * `24 11 01 36` accepted; `24 11 01 37`: 5.
-    ∷ row (0x24 ∷ 0x11 ∷ 0x01 ∷ 0x36 ∷ []) 0 [] (withSetting 0 1)
-    ∷ refused (0x24 ∷ 0x11 ∷ 0x01 ∷ 0x37 ∷ []) 5
-    -- * `60` alone: 2, with the reply `02 00 00 02`. * `04 10 00`: 7.
-    ∷ row (0x60 ∷ []) 2 (0x02 ∷ 0x00 ∷ 0x00 ∷ 0x02 ∷ []) resetState
+    -- * `24 11 01 8F` accepted; `24 11 01 36`: 5.
+    ∷ row (0x24 ∷ 0x11 ∷ 0x01 ∷ 0x8F ∷ []) 0 [] (withSetting 0 1)
+    ∷ refused (0x24 ∷ 0x11 ∷ 0x01 ∷ 0x36 ∷ []) 5
+    -- * `60` alone: 2, with the reply `02 00 00 06`. * `04 10 00`: 7.
+    ∷ row (0x60 ∷ []) 2 (0x02 ∷ 0x00 ∷ 0x00 ∷ 0x06 ∷ []) resetState
     ∷ refused (0x04 ∷ 0x10 ∷ 0x00 ∷ []) 7
     -- * `04 11 05`: 10. * `04 1A 01`: 10; `04 1A 02` accepted. * `04 39 01`: 11; `04 39 02`: 10.
     ∷ refused (0x04 ∷ 0x11 ∷ 0x05 ∷ []) 10

@@ -35,5 +35,5 @@ pub record Theorems : Type 0 where
   pub batch-walked : (n : ℕ) (held wanted : List ℕ) → MapOf n held → MapOf n wanted → (rest : List ℕ)
       → EachAnnounced rest (packetsOf held wanted)
   pub examples : Examples
-  -- Rule 2.5, at work: a sum over 256.
-  pub sum-wraps : checksum (0xF0 ∷ 0x20 ∷ 0x03 ∷ []) ≡ 0x13
+  -- Rule 2.5, at work: the second sum is 315h.
+  pub sum-worked : checksum (0xF0 ∷ 0x21 ∷ 0x03 ∷ []) ≡ 0x15

@@ -1,15 +1,13 @@
--- A number past the end; the checksum as a loop computes it; runs of stores; and the loop that copies.
--- Whoever cites a checksum needs only that it is below 256.
-use Prim.Native.Nat.{ℕ, suc, _+_, _%_, _≤_, _<_}
+-- A number past the end; runs of stores; and the loop that copies.
+use Prim.Native.Nat.{ℕ, suc, _+_, _≤_, _<_}
 use mathlib.Core.Path.{_≡_, refl, _∙_}
 use mathlib.Core.List.{List, [], _∷_, _++_}
 use native.Mathlib.Nat.{add-zero}
 use native.Mathlib.Numerals.{add-one}
 use native.Mathlib.Omega.{arith}
 use lib.ListN.{length, take, drop, getD, set, length-set, List·getD-eq-default}
-use lib.Seq.{take-append-seam, take-suc, sets, paste, paste-zero, paste-suc}
+use lib.Seq.{take-append-seam, sets, paste, paste-zero, paste-suc}
 use Rattle.wire.specs.Numbers.{byteAt, wordAt}
-use Rattle.wire.specs.Checksum.{total, checksum}
 use Rattle.wire.specs.Buffers.{over}
 
 -- Past the end stands 0.
@@ -18,23 +16,6 @@ byte-past s i h = List·getD-eq-default s 0 h
 
 pub word-past : (s : List ℕ) (i : ℕ) → length s ≤ i → wordAt s i ≡ 0
 word-past s i h = omega (arith, byte-past s i h, byte-past s (i + 1) (omega arith))
-
-pub total-append : (s t : List ℕ) → total (s ++ t) ≡ total s + total t
-total-append [] t = omega arith
-total-append (x ∷ s) t = omega (arith, total-append s t)
-
--- One byte more.
-pub total-turn : (s : List ℕ) (i : ℕ) → i < length s → total (take (i + 1) s) ≡ total (take i s) + getD s i 0
-total-turn s i h = rw (add-one, take-suc s i 0, total-append) (omega arith)
-
--- The loop that sums: where it begins, and a turn.
-pub checksum-none : (s : List ℕ) → 0 ≡ checksum (take 0 s)
-unfolding checksum
-checksum-none s = refl
-
-pub checksum-turn : (s : List ℕ) (i : ℕ) → i < length s → (checksum (take i s) + getD s i 0) % 256 ≡ checksum (take (i + 1) s)
-unfolding checksum
-checksum-turn s i h = rw total-turn (omega arith)
 
 -- A run of stores behind another is one run.
 pub sets-append : (l : List ℕ) (i : ℕ) (s t : List ℕ) → sets (sets l i s) (i + length s) t ≡ sets l i (s ++ t)

@@ -1,3 +1,4 @@
+pub mod Sums
 pub mod Copies
 pub mod Laws
 pub mod Tables

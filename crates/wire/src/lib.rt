@@ -5,7 +5,7 @@ ghost use mathlib.Core.List.{[], _∷_};
 ghost use lib.ListN.{length, take, drop};
 ghost use lib.Seq.{paste, sets};
 ghost use Rattle.wire.specs.Numbers.{byteAt, wordAt, longAt, wordBytes};
-ghost use Rattle.wire.specs.Checksum.{«checksum»};
+ghost use Rattle.wire.specs.Checksum.{«checksum», ChecksumAgrees};
 
 // Why something was refused: the number of rule 4.1, 0 where nothing was.
 pub struct Refusal {
@@ -65,15 +65,19 @@ pub fn long(s: &[u8], i: usize) -> usize
     }
 }
 
-// The checksum of the first n bytes.
+// The checksum of the first n bytes, as a weighted sum: a byte's weight is the number of bytes from it on, and of weight and sum only the low byte counts.
+// The rule's two sums are taken byte by byte, since the second waits for the first. Products of 16 bits the compiler takes several at a time.
 pub fn checksum(s: &[u8], n: usize) -> usize
     requires { ⌜ n ≤ length (now s) ⌝ }
-    ensures { λ r. ⌜ (r ≡ «checksum» (take n (now (s .entry)))) × (r < 256) ⌝ }
+    ensures { λ r. ⌜ (r ≡ «checksum» (take n (now (s .entry)))) × (r < 256) × ChecksumAgrees (take n (now (s .entry))) ⌝ }
 {
+    let mut weight = (n % 256) as u16;
     let mut sum: usize = 0;
     let mut i = 0;
     while i < n {
-        sum = (sum + s[i] as usize) % 256;
+        sum = (sum + (weight * s[i] as u16) as usize) % 256;
+        // One less.
+        weight = (weight + 255) % 256;
         i += 1;
     }
     sum

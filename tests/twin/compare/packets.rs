@@ -3,6 +3,7 @@
 //! printed, and counts that fall short are failures.
 
 mod bench;
+mod checksums;
 mod counts;
 mod generate;
 #[allow(dead_code, reason = "each program calls some of the entries")]
@@ -37,6 +38,7 @@ fn main() -> ExitCode {
     bench.group("read and make, gains of 2Bh", reading::gains);
     bench.group("read and make, sizes", reading::sizes);
     bench.group("read, damaged", reading::damaged);
+    bench.group("read, checksums", checksums::of_packets);
     bench.group("read, 512 bytes and more", reading::long);
     bench.group("read, order of refusals", reading::order);
     bench.group("make, opcodes and options", making::opcodes_and_options);
@@ -46,6 +48,7 @@ fn main() -> ExitCode {
     bench.group("make, random arguments", making::random_arguments);
     bench.group("read_reply, statuses", replies::statuses);
     bench.group("read_reply, damaged", replies::damaged);
+    bench.group("read_reply, checksums", checksums::of_replies);
     bench.group("read_reply, 512 bytes and more", replies::long);
     bench.group("read_reply, order of refusals", replies::order);
     bench.group("read_reply, random bytes", replies::random_bytes);

@@ -79,7 +79,7 @@ fn cases() -> [Case; 4] {
         },
         Case {
             name: "replies of 512 bytes",
-            packets: vec![hex("A4 34 00 00 7F 00 57"), hex("A4 2B 01 00 00 FE 00 CE")],
+            packets: vec![hex("A4 34 00 00 7F 00 DA"), hex("A4 2B 01 00 00 FE 00 7F")],
             records: 40_000,
         },
         Case {

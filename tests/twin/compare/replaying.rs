@@ -75,7 +75,7 @@ pub fn many_records(comparison: &mut Comparison) {
 /// A short session cut at every byte, and others anywhere (rule 9.3).
 pub fn cuts(comparison: &mut Comparison) {
     let packets =
-        ["", "60", "04 11 01", "84 11", "", "C4 13", "64 11 04 79", "A4 34 00 00 02 00 DA", "04 1A 01"];
+        ["", "60", "04 11 01", "84 11", "", "C4 13", "64 11 04 52", "A4 34 00 00 02 00 E0", "04 1A 01"];
     let file = session(&packets.map(hex));
     for length in 0..=file.len() {
         for feed in [Feed::File, Feed::Pipe(5), Feed::Parts(vec![1]), Feed::Parts(vec![4, 3])] {

@@ -52,15 +52,15 @@ fn main() -> ExitCode {
     let mixed = mixed::session(&mut random);
     let points = [&[7, 0][..], &random.bytes(4 * 126)].concat();
     let map = packet_of(0x14, Opcode::Map, &points);
-    // Two-byte opcode, length and checksum: the packet has 512 bytes, and so has the reply to the read.
+    // The same points with a two-byte opcode and a checksum: 512 bytes, as the reply to the read has.
     let longest = packet_of(0x3C, Opcode::Map, &points);
     let asks = packet_of(0xB4, Opcode::Map, &[7, 0, 127, 0]);
     let cases = [
         ("mixed session", mixed.iter().map(|packet| Some(&packet[..])).collect()),
         ("11h write", vec![Some(&[0x04, 0x11, 0x01][..])]),
         ("34h write of 126 points", vec![Some(&map[..])]),
-        ("the same, with a checksum", vec![Some(&longest[..])]),
-        ("34h read, with a checksum", vec![Some(&asks[..])]),
+        ("512 bytes, checksum", vec![Some(&longest[..])]),
+        ("512-byte reply, checksum", vec![Some(&asks[..])]),
         ("36h apply", vec![Some(&[0x04, 0x36, 0x01][..])]),
         ("reset", vec![None]),
     ];

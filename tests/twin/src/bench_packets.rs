@@ -2,6 +2,7 @@
 
 use crate::block;
 use crate::command::{Colour, Command, Direction, Opcode, Read, Target, Write};
+use crate::fields::checksum;
 use crate::front_end::{self, Lent, Memory};
 use crate::packet::{self, assemble, Header};
 use crate::planner::{self, Planned};
@@ -54,8 +55,8 @@ fn bench_packets_read() {
     assert_reads("84 11", Ok(Command::Read(Read::Display)));
     assert_reads("44 11 01", display(1));
     assert_reads("0C 11 00 01", display(1));
-    assert_reads("24 11 01 36", display(1));
-    assert_eq!(refusal("24 11 01 37"), 5);
+    assert_reads("24 11 01 8F", display(1));
+    assert_eq!(refusal("24 11 01 36"), 5);
     assert_eq!(refusal("03 11 01"), 6);
     assert_eq!(refusal("14 11 02 00 01"), 4);
     assert_eq!(refusal("04 11 05"), 10);
@@ -233,7 +234,7 @@ fn the_longest_replies_fill_512_bytes() {
     let mut memory = Memory::default();
     // Gains above 8,191 are taken as they lie.
     memory.gains.fill(0xFF);
-    for text in ["A4 34 00 00 7F 00 57", "A4 2B 01 00 00 FE 00 CE"] {
+    for text in ["A4 34 00 00 7F 00 DA", "A4 2B 01 00 00 FE 00 7F"] {
         let (status, reply) = send(&mut memory, &hex(text));
         assert_eq!((status, reply.len()), (0, 512), "{text}");
         assert_eq!(reply::read(&reply, true).map(|reply| reply.data.len()), Ok(508));
@@ -272,7 +273,7 @@ fn wrong_lengths_are_refused_first() {
 
 #[test]
 fn a_setting_out_of_range_is_refused_first() {
-    for packet in ["", "60", "84 11", "44 11 01", "24 11 01 37"] {
+    for packet in ["", "60", "84 11", "44 11 01", "24 11 01 36"] {
         for place in [0, 1, 4, 6, 7, 8, 201, 202, 395, 396, 497, 498, 761, 766, 767, 834, 835, 864] {
             let mut memory = Memory::default();
             memory.block[place] = 255;
@@ -361,7 +362,7 @@ fn headers_and_commands_go_both_ways() {
 #[test]
 fn making_gives_the_bench_packets() {
     for text in
-        ["04 11 01", "84 11", "44 11 01", "0C 11 00 01", "24 11 01 36", "14 34 06 00 BF 07 01 00 02 00"]
+        ["04 11 01", "84 11", "44 11 01", "0C 11 00 01", "24 11 01 8F", "14 34 06 00 BF 07 01 00 02 00"]
     {
         let expected = hex(text);
         let reading = packet::read(&expected).unwrap();
@@ -395,6 +396,27 @@ fn making_refuses_in_order() {
 }
 
 #[test]
+fn the_low_byte_of_the_second_sum_is_sent() {
+    for (bytes, due) in
+        [("", 0), ("24 11 01", 0x8F), ("02 00 00", 0x06), ("F0 21 03", 0x15), ("FF*509", 0xFD)]
+    {
+        assert_eq!(checksum(&hex(bytes)), due, "{bytes}");
+    }
+    // A byte counts as often as there are bytes from it on, modulo 256. Of the 4,088 bits before the
+    // checksum of a longest packet, 502 may change unseen.
+    let mut unseen = 0;
+    for place in 0..511 {
+        for bit in 0..8 {
+            let mut changed = [0; 511];
+            changed[place] = 1 << bit;
+            assert_eq!(usize::from(checksum(&changed)), ((511 - place) << bit) % 256, "{place}, {bit}");
+            unseen += usize::from(checksum(&changed) == checksum(&[0; 511]));
+        }
+    }
+    assert_eq!(unseen, 502);
+}
+
+#[test]
 fn replies_read_back() {
     for status in 0..=12 {
         for size in [0, 1, 255, 256, 508] {
@@ -419,7 +441,9 @@ fn reply_reading_refuses_in_order() {
     assert_eq!(reply::read(&[0x0D; 513], true), Err(Refusal::TooLong));
     assert_eq!(read("0D 01 00", false), 4);
     assert_eq!(read("0D 00 00 00", true), 5);
-    assert_eq!(read("0D 00 00 0D", true), 10);
+    assert_eq!(read("0C 00 00 0C", true), 5);
+    assert_eq!(read("0C 00 00 24", true), 0);
+    assert_eq!(read("0D 00 00 27", true), 10);
     assert_eq!(read("0D 00 00", false), 10);
     assert_eq!(read("0C 00 00", false), 0);
 }

@@ -5,9 +5,14 @@ use std::ops::RangeInclusive;
 /// A 16-bit number as it lies in packets, tables and the block.
 pub type Word = [u8; 2];
 
-/// Rule 2.5: the sum of the bytes, modulo 256.
+/// Rule 2.5: the guide's loop, with its two sums of 32 bits; of the second the low byte is sent.
 pub fn checksum(bytes: &[u8]) -> u8 {
-    bytes.iter().fold(0, |sum, byte| sum.wrapping_add(*byte))
+    let (mut first, mut second) = (0_u32, 0_u32);
+    for byte in bytes {
+        first = first.wrapping_add(u32::from(*byte));
+        second = second.wrapping_add(first);
+    }
+    second.to_le_bytes()[0]
 }
 
 /// Some value is out of its range, or reserved. In a packet this is refusal 10, in a setting

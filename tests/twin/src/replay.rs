@@ -286,9 +286,9 @@ mod tests {
             (0x84, " 03 00 00"),
             (0xC4, " 03 00 00"),
             (0x24, ""),
-            (0x64, " 03 00 00 03"),
-            (0xA4, " 03 00 00 03"),
-            (0xE4, " 03 00 00 03"),
+            (0x64, " 03 00 00 09"),
+            (0xA4, " 03 00 00 09"),
+            (0xE4, " 03 00 00 09"),
             (0x00, ""),
             (0x5F, " 03 00 00"),
         ] {
@@ -314,7 +314,7 @@ mod tests {
     #[test]
     fn long_records_that_are_cut() {
         let mut file = session(&[vec![0xE4; 1600]]);
-        assert_eq!(text(&file), "1 3 03 00 00 03\nend 1\n");
+        assert_eq!(text(&file), "1 3 03 00 00 09\nend 1\n");
         while file.len() > 6 {
             file.pop();
             assert_eq!(text(&file), "1 cut\nend 0\n", "{} bytes", file.len());

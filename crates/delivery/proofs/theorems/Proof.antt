@@ -23,7 +23,7 @@ returns c =
       announced-sound = λ p s h. rw h (omega (arith, s .whole, s .counted h));
       batch-walked = λ n held wanted h w. batch-announced n held wanted (h .long) (w .long);
       examples = examples;
-      sum-wraps = refl;
+      sum-worked = refl;
     }
 
 pub theorems-spec : {M : Type 1} → statement M
