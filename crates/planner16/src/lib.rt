@@ -180,19 +180,22 @@ pub fn plan(
         ⌝ }
 {
     let n = points as usize;
+    let map = 2 * n;
     let lent = Lengths {
         held: held.len(),
         wanted: wanted.len(),
         plan: plan.len(),
         room: room.len(),
+        batch: batch.len(),
     };
     let asked = Lengths {
-        held: 2 * n,
-        wanted: 2 * n,
+        held: map,
+        wanted: map,
         plan: planning::PLAN_SIZE,
         room: planning::ROOM_SIZE,
+        batch: planning::BATCH_SIZE,
     };
-    let status = planning::refusal(points, lent, asked, batch.len());
+    let status = planning::refusal(points, lent, asked);
     if status != 0 {
         return Answer {
             status,

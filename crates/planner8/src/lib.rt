@@ -208,19 +208,22 @@ pub fn plan(
         ⌝ }
 {
     let n = points as usize;
+    let map = 4 * n;
     let lent = Lengths {
         held: held.len(),
         wanted: wanted.len(),
         plan: plan.len(),
         room: room.len(),
+        batch: batch.len(),
     };
     let asked = Lengths {
-        held: 4 * n,
-        wanted: 4 * n,
+        held: map,
+        wanted: map,
         plan: PLAN_BYTES,
         room: ROOM_BYTES,
+        batch: planning::BATCH_SIZE,
     };
-    let status = planning::refusal(points, lent, asked, batch.len());
+    let status = planning::refusal(points, lent, asked);
     if status != 0 {
         return Answer {
             status,

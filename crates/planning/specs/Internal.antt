@@ -3,4 +3,4 @@ use Rattle.upload.specs.Planning as planning
 use Rattle.planning.specs.declared.Lengths.{Lengths}
 
 abbrev pub lengthsIn : Lengths → planning.Lengths
-lengthsIn l = planning.lengths (l .held) (l .wanted) (l .plan) (l .room)
+lengthsIn l = planning.lengths (l .held) (l .wanted) (l .plan) (l .room) (l .batch)

@@ -31,12 +31,13 @@ pub struct Answer {
     pub bytes: usize,
 }
 
-// How long the lists are that planning is lent, or asks for, beside the batch.
+// How long the lists are that planning is lent, or asks for.
 pub struct Lengths {
     pub held: usize,
     pub wanted: usize,
     pub plan: usize,
     pub room: usize,
+    pub batch: usize,
 }
 
 fn points_wrong(points: u32) -> bool
@@ -45,24 +46,24 @@ fn points_wrong(points: u32) -> bool
     (points == 0) | (MOST_POINTS < points)
 }
 
-fn lengths_wrong(lent: Lengths, asked: Lengths, batch: usize) -> bool
-    ensures { λ r. ⌜ r ≡ lengthsWrong (lengthsIn lent) (lengthsIn asked) batch ⌝ }
+fn lengths_wrong(lent: Lengths, asked: Lengths) -> bool
+    ensures { λ r. ⌜ r ≡ lengthsWrong (lengthsIn lent) (lengthsIn asked) ⌝ }
 {
     !((lent.held == asked.held)
         & (lent.wanted == asked.wanted)
         & (lent.plan == asked.plan)
         & (lent.room == asked.room)
-        & (BATCH_SIZE <= batch))
+        & (asked.batch <= lent.batch))
 }
 
 // Refusal 10 for a number of points that no map has, then 1 for a wrong length, 0 for neither.
-pub fn refusal(points: u32, lent: Lengths, asked: Lengths, batch: usize) -> u8
-    ensures { λ r. ⌜ r ≡ first (refusalsOf points (lengthsIn lent) (lengthsIn asked) batch) ⌝ }
+pub fn refusal(points: u32, lent: Lengths, asked: Lengths) -> u8
+    ensures { λ r. ⌜ r ≡ first (refusalsOf points (lengthsIn lent) (lengthsIn asked)) ⌝ }
 {
     if points_wrong(points) {
         return 10;
     }
-    if lengths_wrong(lent, asked, batch) {
+    if lengths_wrong(lent, asked) {
         return 1;
     }
     0

@@ -5,24 +5,24 @@ use Prim.Native.Nat.{ℕ, _≤_, _*_}
 use mathlib.Core.Path.{_≡_, refl, sym, ap, _∙_}
 use mathlib.Core.Logic.{_↔_}
 use mathlib.Core.Bool.{Bool, true, false}
-use mathlib.Core.List.{List}
+use mathlib.Core.List.{List, append-nil}
 use native.Mathlib.Omega.{arith}
 use borrow.Author.Tests.{eqb-true, eq-eqb, ne-eqb, le-leb, le-ltb, eqb-false}
-use lib.ListN.{length, drop, length-map}
+use lib.ListN.{length, drop, length-map, drop-of-length-le}
 use lib.Seq.{drop-at}
 use lib.Dec.{eqb}
 use Rattle.wire.specs.First.{first}
 use Rattle.wire.specs.Buffers.{over}
-use Rattle.wire.specs.Tables.{words, bytes, longs, longBytes}
+use Rattle.wire.specs.Tables.{halves, words, bytes, longs, longBytes}
 use Rattle.wire.proofs.Laws.{take-over}
-use Rattle.wire.proofs.Tables.{length-pairs, length-halves, pairs-halves, halves-drop, longs-bytes}
+use Rattle.wire.proofs.Tables.{length-pairs, length-halves, pairs-halves, halves-drop, halves-over, pairs-over}
 use Rattle.wire.proofs.Tests.{told, or-left}
-use Rattle.upload.specs.Plan.{planOf, planNumbers, packetFor, packetsOf, joined, batchOf}
+use Rattle.upload.specs.Plan.{Part, planOf, planNumbers, packetFor, packetsOf, joined, batchOf}
 use Rattle.upload.specs.Judge.{MapOf}
-use Rattle.upload.specs.Planning.{Sheets, sheets, sheetsIn, sheetBytes, bytePlanOut, plannedBy, pointsWrong, lengths, lengthsWrong, refusalsWith, planRefusals, bytePlanRefusals, PlanOut, planOut, PointsRight, ListsRight, NumbersRight, BytesRight, PlanRefusals, roomOf, planned, plannedBytes, MapsLent, Written, Fewest, PlanChosen, Planned, PlannedBytes}
+use Rattle.upload.specs.Planning.{Sheets, sheets, sheetsIn, sheetBytes, bytePlanOut, writes, plannedBy, pointsWrong, lengths, lengthsWrong, refusalsWith, planRefusals, bytePlanRefusals, PlanOut, planOut, PointsRight, ListsRight, NumbersRight, BytesRight, PlanRefusals, roomOf, planned, plannedBytes, MapsLent, Written, Fewest, PlanChosen, Planned, PlannedBytes}
 use Rattle.upload.proofs.Lists.{demand3, batch-cost, batch-bound, plan-equal}
 use Rattle.upload.proofs.Choice.{plan-chosen, chosen-only}
-use Rattle.upload.proofs.RoomMeans.{room-means}
+use Rattle.upload.proofs.RoomMeans.{room-means, room-whole}
 use Rattle.upload.proofs.Walk.{length-numbers}
 
 -- What is taken has no refusal.
@@ -52,8 +52,8 @@ module _ (each plans places n : ℕ) (held wanted : List ℕ) (s : Sheets) where
 
   abbrev wrong : Bool
   wrong =
-      lengthsWrong (lengths (length held) (length wanted) (length (s .plan)) (length (s .room))) (lengths (each * n) (each * n) plans places)
-      (length (s .batch))
+      lengthsWrong (lengths (length held) (length wanted) (length (s .plan)) (length (s .room)) (length (s .batch)))
+      (lengths (each * n) (each * n) plans places 8032)
 
   lists-tested : (wrong ≡ false) ↔ Right
   lists-tested = (
@@ -191,34 +191,20 @@ refused-bytes n held wanted s {number} e h =
 
 -- Planned.
 pub done : (n : ℕ) (held wanted : List ℕ) (s : Sheets) {plan room batch : List ℕ} {packets size : ℕ} → first (planRefusals n held wanted s) ≡ 0
-    → MapOf n held → MapOf n wanted → room ≡ roomOf n held wanted → Written held wanted (s .plan) (s .batch) plan batch packets size
+    → MapOf n held → MapOf n wanted → room ≡ over (roomOf n held wanted) (s .room) → Written held wanted (s .plan) (s .batch) plan batch packets size
     → Planned n held wanted s (planOut 0 packets size (sheets plan room batch))
 unfolding planned
 done n held wanted s e h w r t =
+    let f = fit 2 3968 1985 n held wanted s e in
     record {
       outcome = rw (e, t .packets-are, t .bytes-are, t .plan-is, t .batch-is, r);
-      refusals = not-refused (fit 2 3968 1985 n held wanted s e) refl;
+      refusals = not-refused f refl;
       fewest = λ z. rw (t .packets-are, t .bytes-are, t .batch-is) (fewest n held wanted (s .batch) h w);
       plan = λ z. rw (t .packets-are, t .bytes-are, t .plan-is, t .batch-is) (chosen n held wanted (s .plan) (s .batch) h w);
-      room = λ z. rw r (room-means n held wanted h w);
+      room = λ z. rw (r, room-whole n held wanted h w (s .room) (f .0 .few) (f .1 .room-long)) (room-means n held wanted h w);
       equal = λ z same. rw (t .packets-are, t .bytes-are) (equal-none n held wanted h same);
       plan-behind = rw (t .packets-are, t .plan-is, ← length-numbers (planOf held wanted)) (behind-over (planNumbers (planOf held wanted)) (s .plan));
       batch-behind = rw (t .bytes-are, t .batch-is) (behind-over (batchOf held wanted) (s .batch));
-    }
-
--- On bytes: the numbers that they hold are planned as above, and the bytes are those of the numbers.
-pub done-bytes : (n : ℕ) (held wanted : List ℕ) (s : Sheets) {plan room batch : List ℕ} {packets size : ℕ}
-    → first (bytePlanRefusals n held wanted s) ≡ 0 → bytes (words plan) ≡ plan → bytes (words (s .plan)) ≡ s .plan → longBytes (longs room) ≡ room
-    → Planned n (words held) (words wanted) (sheetsIn s) (planOut 0 packets size (sheets (words plan) (longs room) batch))
-    → PlannedBytes n held wanted s (planOut 0 packets size (sheets plan room batch))
-unfolding plannedBytes
-done-bytes n held wanted s {plan} {room} {batch} {packets} e p p₀ r t =
-    record {
-      outcome = rw (e, ← t .outcome, p, r);
-      refusals = not-refused (fit 4 7936 7940 n held wanted s e) refl;
-      numbers = λ z. t;
-      plan-behind = bytes-behind packets p p₀ (t .plan-behind);
-      batch-behind = t .batch-behind;
     }
 
 -- The numbers that bytes of the right lengths hold are of the right lengths.
@@ -235,6 +221,44 @@ fit-words (points, f) = (
   },
 )
 
+-- On bytes: a list whose numbers are written over the start of others has their bytes written over the start of theirs.
+over-bytes : {list list₀ : List ℕ} (new : List ℕ) → bytes (words list) ≡ list → bytes (words list₀) ≡ list₀ → words list ≡ over new (words list₀)
+    → list ≡ over (bytes new) list₀
+over-bytes {list} {list₀} new p q e = sym p ∙ ap bytes e ∙ halves-over 256 new (words list₀) ∙ rw q
+
+-- The numbers that the bytes hold are planned as above, and the bytes are those of the numbers.
+pub done-bytes : (n : ℕ) (held wanted : List ℕ) (s : Sheets) {plan room batch : List ℕ} {packets size : ℕ}
+    → first (bytePlanRefusals n held wanted s) ≡ 0 → MapOf n (words held) → MapOf n (words wanted) → bytes (words plan) ≡ plan
+    → bytes (words (s .plan)) ≡ s .plan → room ≡ over (longBytes (roomOf n (words held) (words wanted))) (s .room)
+    → Written (words held) (words wanted) (words (s .plan)) (s .batch) (words plan) batch packets size
+    → PlannedBytes n held wanted s (planOut 0 packets size (sheets plan room batch))
+unfolding plannedBytes
+done-bytes n held wanted s {plan} {room} {batch} {packets} e h w p p₀ r t =
+    let f = fit 4 7936 7940 n held wanted s e in
+    let room-numbers : List ℕ = roomOf n (words held) (words wanted) in
+    let longs-room : longs room ≡ over room-numbers (longs (s .room)) =
+    rw (r, pairs-over 256 (halves 65536 room-numbers) (s .room), pairs-over 65536 room-numbers (words (s .room))) in
+    let numbers =
+    done n (words held) (words wanted) (sheetsIn s) (taken 2 3968 1985 n (words held) (words wanted) (sheetsIn s) (fit-words f)) h w longs-room t in
+    record {
+      outcome = rw (e, t .packets-are, t .bytes-are, over-bytes (planNumbers (planOf (words held) (words wanted))) p p₀ (t .plan-is), r, t .batch-is);
+      refusals = not-refused f refl;
+      numbers = λ z. numbers;
+      plan-behind = bytes-behind packets p p₀ (numbers .plan-behind);
+      batch-behind = numbers .batch-behind;
+    }
+
+-- A room of bytes is as long as what is written over it.
+pub whole-bytes : (n : ℕ) (held wanted : List ℕ) → MapOf n held → MapOf n wanted → {room : List ℕ} (room₀ : List ℕ) → longBytes (longs room) ≡ room
+    → longs room ≡ roomOf n held wanted → n ≤ 1984 → length room₀ ≡ 7940 → room ≡ over (longBytes (roomOf n held wanted)) room₀
+unfolding over
+whole-bytes n held wanted h w {room} room₀ b e few long =
+    let numbers : List ℕ = roomOf n held wanted in
+    let size = room-means n held wanted h w .long few in
+    sym b ∙ ap longBytes e
+    ∙ sym (rw (drop-of-length-le room₀ {i = length (longBytes numbers)} (omega (arith, length-halves 256 (halves 65536 numbers), length-halves 65536 numbers)))
+    (append-nil (longBytes numbers)))
+
 -- Numbers lent as their bytes: planning does there what it does on the numbers.
 fit-bytes : {n : ℕ} {held wanted : List ℕ} {s : Sheets} → PointsRight n × NumbersRight n held wanted s
     → PointsRight n × BytesRight n (bytes held) (bytes wanted) (sheetBytes s)
@@ -249,16 +273,23 @@ fit-bytes (points, f) = (
   },
 )
 
-status-by : (n : ℕ) (held wanted : List ℕ) (s : Sheets) (number : ℕ) (b : Bool) → eqb number 0 ≡ b
-    → plannedBy number n held wanted s .status ≡ number
-status-by n held wanted s number true e = rw e (sym (eqb-true number 0 e))
-status-by n held wanted s number false e = rw e
+status-by : (plan : List Part) (new s : Sheets) (number : ℕ) (b : Bool) → eqb number 0 ≡ b → plannedBy number plan new s .status ≡ number
+status-by plan new s number true e = rw e (sym (eqb-true number 0 e))
+status-by plan new s number false e = rw e
 
 pub plan-bytes : (n : ℕ) (held wanted : List ℕ) (s : Sheets) → planned n held wanted s .status ≡ 0
     → plannedBytes n (bytes held) (bytes wanted) (sheetBytes s) ≡ bytePlanOut (planned n held wanted s)
 unfolding planned plannedBytes
 plan-bytes n held wanted s e =
     let number : ℕ = first (planRefusals n held wanted s) in
-    let silent : number ≡ 0 = sym (status-by n held wanted s number (eqb number 0) refl) ∙ e in
+    let silent : number ≡ 0 = sym (status-by (planOf held wanted) (writes n held wanted) s number (eqb number 0) refl) ∙ e in
     let none = taken 4 7936 7940 n (bytes held) (bytes wanted) (sheetBytes s) (fit-bytes (fit 2 3968 1985 n held wanted s silent)) in
-    rw (none, pairs-halves 256 held, pairs-halves 256 wanted, pairs-halves 256 (s .plan), longs-bytes (s .room))
+    rw (
+      silent,
+      none,
+      pairs-halves 256 held,
+      pairs-halves 256 wanted,
+      halves-over 256 (planNumbers (planOf held wanted)) (s .plan),
+      halves-over 65536 (roomOf n held wanted) (s .room),
+      halves-over 256 (halves 65536 (roomOf n held wanted)) (halves 65536 (s .room)),
+    )

@@ -3,10 +3,11 @@
 use Prim.Native.Nat.{ℕ, zero, suc, _+_, _-_, _*_, _≤_}
 use mathlib.Core.Path.{_≡_, refl, sym, ap, _∙_}
 use mathlib.Core.Bool.{Bool}
-use mathlib.Core.List.{List, [], _∷_, _++_}
+use mathlib.Core.List.{List, [], _∷_, _++_, append-nil}
 use native.Mathlib.Omega.{arith}
-use lib.ListN.{length, drop, getD, replicate, length-drop, List·getD-append}
+use lib.ListN.{length, drop, getD, replicate, length-drop, drop-of-length-le, List·getD-append}
 use lib.Seq.{getD-drop}
+use Rattle.wire.specs.Buffers.{over}
 use Rattle.upload.specs.Cost.{differs, best, rooms}
 use Rattle.upload.specs.Plan.{packetsOf, batchOf}
 use Rattle.upload.specs.Judge.{MapOf}
@@ -66,3 +67,10 @@ module _ (n : ℕ) (held wanted : List ℕ) (h : MapOf n held) (w : MapOf n want
         below = least-from;
         beyond = λ i l k. room-end (differs held wanted) (1984 - n) i (omega (arith, all));
       }
+
+  -- It is as long as the lent room, so nothing of that is left.
+  pub room-whole : (room : List ℕ) → n ≤ 1984 → length room ≡ 1985 → over (roomOf n held wanted) room ≡ roomOf n held wanted
+  unfolding over
+  room-whole room few long =
+      rw (drop-of-length-le room {i = length (roomOf n held wanted)} (omega (arith, whole-long n few (differs held wanted) all (roomOf n held wanted) refl)))
+      (append-nil (roomOf n held wanted))

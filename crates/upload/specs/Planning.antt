@@ -28,35 +28,36 @@ sheets plan room batch = record { plan = plan; room = room; batch = batch }
 abbrev pub pointsWrong : ℕ → Bool
 pointsWrong n = eqb n 0 || ltb mostPoints n
 
--- How long lists are that planning is lent, or asks for, the batch apart.
+-- How long the lists are that planning is lent, or asks for.
 pub record Lengths : Type 0 where
   pub held : ℕ
   pub wanted : ℕ
   pub plan : ℕ
   pub room : ℕ
+  pub batch : ℕ
 
-abbrev pub lengths : ℕ → ℕ → ℕ → ℕ → Lengths
-lengths held wanted plan room = record { held = held; wanted = wanted; plan = plan; room = room }
+abbrev pub lengths : ℕ → ℕ → ℕ → ℕ → ℕ → Lengths
+lengths held wanted plan room batch = record { held = held; wanted = wanted; plan = plan; room = room; batch = batch }
 
 -- Rule 6.4, 1: a list is not as long as is asked for; the batch may be longer.
-abbrev pub lengthsWrong : Lengths → Lengths → ℕ → Bool
-lengthsWrong lent asked batch =
+abbrev pub lengthsWrong : Lengths → Lengths → Bool
+lengthsWrong lent asked =
     not
     (eqb (lent .held) (asked .held)
     && eqb (lent .wanted) (asked .wanted)
     && eqb (lent .plan) (asked .plan)
     && eqb (lent .room) (asked .room)
-    && leb batchSize batch)
+    && leb (asked .batch) (lent .batch))
 
 -- Rule 6.4: 10 is tried first.
-abbrev pub refusalsOf : ℕ → Lengths → Lengths → ℕ → List (ℕ × Bool)
-refusalsOf n lent asked batch = (10, pointsWrong n) ∷ (1, lengthsWrong lent asked batch) ∷ []
+abbrev pub refusalsOf : ℕ → Lengths → Lengths → List (ℕ × Bool)
+refusalsOf n lent asked = (10, pointsWrong n) ∷ (1, lengthsWrong lent asked) ∷ []
 
 -- The same of lists, for so many numbers (or bytes) a point, in the plan and in the room.
 abbrev pub refusalsWith : ℕ → ℕ → ℕ → ℕ → List ℕ → List ℕ → Sheets → List (ℕ × Bool)
 refusalsWith each plans places n held wanted s =
-    refusalsOf n (lengths (length held) (length wanted) (length (s .plan)) (length (s .room)))
-    (lengths (each * n) (each * n) plans places) (length (s .batch))
+    refusalsOf n (lengths (length held) (length wanted) (length (s .plan)) (length (s .room)) (length (s .batch)))
+    (lengths (each * n) (each * n) plans places batchSize)
 
 -- Rule 6.4: maps and plan of 16-bit numbers, room of 32-bit ones.
 abbrev pub planRefusals : ℕ → List ℕ → List ℕ → Sheets → List (ℕ × Bool)
@@ -107,18 +108,22 @@ pub record Written (held wanted plan₀ batch₀ plan batch : List ℕ) (packets
   pub plan-is : plan ≡ over (planNumbers (planOf held wanted)) plan₀
   pub batch-is : batch ≡ over (batchOf held wanted) batch₀
 
--- Rules 6.4 and 6.5: plan and batch are written over the start of their lists, the room is filled; a refusal leaves all three.
-abbrev pub plannedBy : ℕ → ℕ → List ℕ → List ℕ → Sheets → PlanOut
-plannedBy number n held wanted s =
-    cond (eqb number 0)
-    (planOut 0 (length (planOf held wanted)) (length (batchOf held wanted))
-    (sheets (over (planNumbers (planOf held wanted)) (s .plan)) (roomOf n held wanted)
-    (over (batchOf held wanted) (s .batch))))
-    (planOut number 0 0 s)
+-- Rules 6.2 to 6.5: what planning writes over the start of each list.
+abbrev pub writes : ℕ → List ℕ → List ℕ → Sheets
+writes n held wanted = sheets (planNumbers (planOf held wanted)) (roomOf n held wanted) (batchOf held wanted)
+
+abbrev pub overAll : Sheets → Sheets → Sheets
+overAll new s = sheets (over (new .plan) (s .plan)) (over (new .room) (s .room)) (over (new .batch) (s .batch))
+
+-- Rules 6.4 and 6.5: a refusal leaves every list.
+abbrev pub plannedBy : ℕ → List Part → Sheets → Sheets → PlanOut
+plannedBy number plan new s =
+    cond (eqb number 0) (planOut 0 (length plan) (length (new .batch)) (overAll new s)) (planOut number 0 0 s)
 
 -- Rule 6.4.
 unfoldable pub planned : ℕ → List ℕ → List ℕ → Sheets → PlanOut
-planned n held wanted s = plannedBy (first (planRefusals n held wanted s)) n held wanted s
+planned n held wanted s =
+    plannedBy (first (planRefusals n held wanted s)) (planOf held wanted) (writes n held wanted) s
 
 -- What planning takes and which refusal it gives, said a second time and apart from the tests above.
 
@@ -207,12 +212,11 @@ bytePlanOut o = planOut (o .status) (o .packets) (o .bytes) (sheetBytes (o .left
 abbrev pub bytePlanRefusals : ℕ → List ℕ → List ℕ → Sheets → List (ℕ × Bool)
 bytePlanRefusals = refusalsWith 4 (2 * planSize) (4 * roomSize)
 
--- Rules 1.3 and 6.4: a refusal leaves every byte; else what planning on the numbers in these bytes gives.
+-- Rules 1.3 and 6.4: the same of the numbers in these bytes, written as bytes.
 unfoldable pub plannedBytes : ℕ → List ℕ → List ℕ → Sheets → PlanOut
 plannedBytes n held wanted s =
-    cond (eqb (first (bytePlanRefusals n held wanted s)) 0)
-    (bytePlanOut (planned n (words held) (words wanted) (sheetsIn s)))
-    (planOut (first (bytePlanRefusals n held wanted s)) 0 0 s)
+    plannedBy (first (bytePlanRefusals n held wanted s)) (planOf (words held) (words wanted))
+    (sheetBytes (writes n (words held) (words wanted))) s
 
 -- Rule 1.3, the promise of planning on bytes: its answer and every lent list, and which refusal it gives; and unless it is refused,
 -- what is left holds what planning on the numbers in these bytes gives, with all that it promises.

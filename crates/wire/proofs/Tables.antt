@@ -8,6 +8,7 @@ use native.Mathlib.Omega.{arith}
 use lib.ListN.{length, take, drop, getD, set}
 use lib.Seq.{take-nil, drop-nil, sets, paste}
 use Rattle.wire.specs.Numbers.{wordAt, longAt}
+use Rattle.wire.specs.Buffers.{over}
 use Rattle.wire.specs.Tables.{pairs, halves, words, longs, longBytes}
 
 double : (n : ℕ) → 2 * suc n ≡ suc (suc (2 * n))
@@ -74,6 +75,21 @@ pub halves-drop : (b n : ℕ) (l : List ℕ) → halves b (drop n l) ≡ drop (2
 halves-drop b zero l = refl
 halves-drop b (suc n) [] = sym (drop-nil (2 * suc n))
 halves-drop b (suc n) (x ∷ l) = rw (double n, halves-drop b n l)
+
+-- Numbers written over a list's start are their digits written over the list's digits.
+pub halves-over : (b : ℕ) (s l : List ℕ) → halves b (over s l) ≡ over (halves b s) (halves b l)
+unfolding over
+halves-over b s l = rw (halves-append b s (drop (length s) l), halves-drop b (length s) l, length-halves b s)
+
+pub pairs-over : (b : ℕ) (s l : List ℕ) → pairs b (over (halves b s) l) ≡ over s (pairs b l)
+unfolding over
+pairs-over b s l =
+    rw (
+      pairs-append b (halves b s) (drop (length (halves b s)) l) (omega (arith, length-halves b s)),
+      pairs-halves b s,
+      length-halves b s,
+      pairs-drop b (length s) l,
+    )
 
 -- Copies and stores.
 pub halves-paste : (b : ℕ) (d : List ℕ) (at : ℕ) (s : List ℕ) (n : ℕ) → halves b (paste d at s n) ≡ paste (halves b d) (2 * at) (halves b s) (2 * n)

@@ -2,16 +2,15 @@
 use mathlib.Core.Path.{_≡_, sym, _∙_}
 use Rattle.wire.specs.First.{first}
 use Rattle.upload.specs.Planning.{Sheets, sheets, planRefusals, PointsRight, NumbersRight}
+use Rattle.upload.specs.Judge.{MapOf}
+use Rattle.upload.proofs.RoomMeans.{room-whole}
 use Rattle.upload.proofs.Outcome.{fit, maps-lent, refused, done}
 use borrow.Author.Needs.{needs}
 use Rattle.planner16.proofs.plan.Statement.{statement}
 use Rattle.planner16.proofs.plan.Tie as tie
 
-mul-t11 : tie.Need-mul-t11
-mul-t11 c = search needs
-
-mul-t14 : tie.Need-mul-t14
-mul-t14 c = search needs
+mul-map : tie.Need-mul-map
+mul-map c = search needs
 
 refusal-requires : tie.Need-refusal-requires
 refusal-requires c κs = search needs
@@ -59,19 +58,17 @@ returns-2 c =
     let args = at-start taken .args in
     let f = fits taken in
     let wrote = c .before .before .before .before .write .ensures in
+    let held : MapOf (args .points) (args .held .now) = record { long = f .1 .held-long; words = λ k. taken .before .before .before .before .before .before .shared-slice-known .given k .fits } in
+    let wanted : MapOf (args .points) (args .wanted .now) = record { long = f .1 .wanted-long; words = λ k. taken .before .before .before .before .before .shared-slice-known2 .given k .fits } in
     rw (wrote .0)
     (done (args .points) (args .held .now) (args .wanted .now) (lent taken) (silent taken)
-    (record { long = f .1 .held-long; words = λ k. taken .before .before .before .before .before .before .shared-slice-known .given k .fits })
-    (record { long = f .1 .wanted-long; words = λ k. taken .before .before .before .before .before .shared-slice-known2 .given k .fits })
-    (filled .measure .ensures)
-    (wrote .1))
+    held wanted (filled .measure .ensures ∙ sym (room-whole _ _ _ held wanted (args .room .now) (f .0 .few) (f .1 .room-long))) (wrote .1))
 
 pub plan-spec : {M : Type 1} → statement M
 plan-spec =
     tie.close
     (tie.spec
-    mul-t11
-    mul-t14
+    mul-map
     refusal-requires
     returns
     measure-requires

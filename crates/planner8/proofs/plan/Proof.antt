@@ -5,18 +5,15 @@ use Rattle.wire.specs.First.{first}
 use Rattle.wire.specs.Tables.{words}
 use Rattle.wire.proofs.Tables.{bytes-longs}
 use Rattle.tables.proofs.Bytes.{bytes-words}
-use Rattle.upload.specs.Planning.{Sheets, sheets, sheetsIn, bytePlanRefusals, PointsRight, BytesRight}
-use Rattle.upload.proofs.Outcome.{fit, maps-lent, taken, fit-words, refused-bytes, done, done-bytes}
+use Rattle.upload.specs.Planning.{Sheets, sheets, bytePlanRefusals, PointsRight, BytesRight}
+use Rattle.upload.proofs.Outcome.{fit, maps-lent, refused-bytes, done-bytes, whole-bytes}
 use Rattle.planner8.proofs.Places.{map-words}
 use borrow.Author.Needs.{needs}
 use Rattle.planner8.proofs.plan.Statement.{statement}
 use Rattle.planner8.proofs.plan.Tie as tie
 
-mul-t11 : tie.Need-mul-t11
-mul-t11 c = search needs
-
-mul-t14 : tie.Need-mul-t14
-mul-t14 c = search needs
+mul-map : tie.Need-mul-map
+mul-map c = search needs
 
 refusal-requires : tie.Need-refusal-requires
 refusal-requires c κs = search needs
@@ -66,25 +63,21 @@ returns-2 c =
     let held = args .held .now in
     let wanted = args .wanted .now in
     let wrote = c .before .before .before .before .write in
-    let planned =
-    done (args .points) (words held) (words wanted) (sheetsIn (lent went)) (taken _ _ _ _ _ _ _ (fit-words f))
-    (map-words (args .points) held (f .1 .held-long) (λ k. went .before .before .before .before .before .before .shared-slice-known .given k .fits))
-    (map-words (args .points) wanted (f .1 .wanted-long) (λ k. went .before .before .before .before .before .shared-slice-known2 .given k .fits))
-    (filled .measure .ensures)
-    (wrote .ensures .1) in
+    let h = map-words (args .points) held (f .1 .held-long) (λ k. went .before .before .before .before .before .before .shared-slice-known .given k .fits) in
+    let w = map-words (args .points) wanted (f .1 .wanted-long) (λ k. went .before .before .before .before .before .shared-slice-known2 .given k .fits) in
+    let room = bytes-longs (filled .measure .last .1 .1 .0) (omega (arith, f .1 .room-long)) (λ k. c .before .before .before .before .before .before .before .before .slice-known4 .given k .fits) in
     rw (wrote .ensures .0)
-    (done-bytes (args .points) held wanted (lent went) (silent went)
+    (done-bytes (args .points) held wanted (lent went) (silent went) h w
     (bytes-words (wrote .last .1 .1 .0) (omega (arith, f .1 .plan-long)) (λ k. c .before .before .slice-known5 .given k .fits))
     (bytes-words (args .plan .now) (omega (arith, f .1 .plan-long)) (λ k. went .before .before .before .before .slice-known .given k .fits))
-    (bytes-longs (filled .measure .last .1 .1 .0) (omega (arith, f .1 .room-long)) (λ k. c .before .before .before .before .before .before .before .before .slice-known4 .given k .fits))
-    planned)
+    (whole-bytes (args .points) (words held) (words wanted) h w (args .room .now) room (filled .measure .ensures) (f .0 .few) (f .1 .room-long))
+    (wrote .ensures .1))
 
 pub plan-spec : {M : Type 1} → statement M
 plan-spec =
     tie.close
     (tie.spec
-    mul-t11
-    mul-t14
+    mul-map
     refusal-requires
     returns
     measure-requires
