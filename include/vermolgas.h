@@ -27,7 +27,7 @@
 
 /* The version, and as one number to compare with: 1.2.3 is 10203. */
 #define VERMOLGAS_VERSION_MAJOR 0
-#define VERMOLGAS_VERSION_MINOR 2
+#define VERMOLGAS_VERSION_MINOR 3
 #define VERMOLGAS_VERSION_PATCH 0
 #define VERMOLGAS_VERSION                                                                                             \
     (10000 * VERMOLGAS_VERSION_MAJOR + 100 * VERMOLGAS_VERSION_MINOR + VERMOLGAS_VERSION_PATCH)
@@ -224,7 +224,8 @@ VERMOLGAS_ENUM(vermolgas_uart_source) { VERMOLGAS_UART_SOURCE_RXD = 0, VERMOLGAS
 #define VERMOLGAS_POINT_BYTES     4    /* one point of a map, held or wanted: 16 bits x and then y */
 #define VERMOLGAS_MOST_POINTS     1984 /* a full map */
 #define VERMOLGAS_PLAN_LIST_BYTES 7936 /* 1,984 times a packet's start and then its count, 16 bits each */
-#define VERMOLGAS_ROOM_BYTES      7940 /* working room: 1,985 numbers of 32 bits */
+#define VERMOLGAS_ROOM_BYTES      508  /* working room, 127 numbers of 32 bits; a longer one is taken, too */
+#define VERMOLGAS_CHOICES_BYTES   1984 /* a byte for each point of a full map; more are taken, too */
 #define VERMOLGAS_BATCH_BYTES     8032 /* room for every batch; a longer buffer is taken, too */
 
 /* Header bits, in place: what VERMOLGAS_READ_OPTIONS gives and vermolgas_make takes. */
@@ -322,9 +323,10 @@ uint64_t vermolgas_read_reply(const uint8_t *reply, size_t reply_length, uint8_t
  * of packets that does so, whatever its packets are, has fewer bytes than the answer gives.
  *
  * points is the number of points N, 1 to VERMOLGAS_MOST_POINTS, else refusal 10; it need not be that of a shape. Then
- * refusal 1 for a wrong length: held and wanted have VERMOLGAS_POINT_BYTES for each point, plan and room have
- * VERMOLGAS_PLAN_LIST_BYTES and VERMOLGAS_ROOM_BYTES, all exactly, and batch has VERMOLGAS_BATCH_BYTES or more. On a
- * refusal no byte is changed. held and wanted may be the same bytes.
+ * refusal 1 for a wrong length: held and wanted have VERMOLGAS_POINT_BYTES for each point and plan has
+ * VERMOLGAS_PLAN_LIST_BYTES, exactly; room, choices and batch have VERMOLGAS_ROOM_BYTES, VERMOLGAS_CHOICES_BYTES and
+ * VERMOLGAS_BATCH_BYTES or more, of any length from there on, whatever N is. On a refusal no byte is changed. held and
+ * wanted may be the same bytes. No alignment is needed: a uint32_t[127] may be lent as the room, or bytes anywhere.
  *
  * The plan is a list of packets, each by its start and its count of points, 1 to 126. Starts rise, and no two packets
  * overlap. Of all such lists of the fewest bytes it is the one with the smallest first count, then second, and so on.
@@ -334,14 +336,24 @@ uint64_t vermolgas_read_reply(const uint8_t *reply, size_t reply_length, uint8_t
  * points as wanted. A controller that holds the points held, and whose shape has N points, accepts each of them and
  * then holds those wanted. Together they have at most 4 x N + 6 x (N / 126 rounded up) bytes.
  *
- * The room has at each index below N the fewest bytes for the points from there on, and 0 from N on. Plan and batch
- * are unchanged past the packets that the answer counts.
+ * Planning works in room and choices, and has no array of its own. What they hold before is not looked at, and nothing
+ * in them need be kept for a later call. After success they hold what follows, and are unchanged behind it:
+ *
+ * - room: numbers 0 to 126 of 32 bits, low byte first. Number k is the fewest bytes for the points from k on, and 0 if
+ *   there are none (k >= N). So number 0 is the bytes of the batch.
+ * - choices: bytes 0 to 1,983. Byte i is the count, 1 to 126, of the packet with which the points from i on are best
+ *   begun: the smallest of the counts that cost fewest bytes, together with what is left behind the packet. It is 0 if
+ *   point i does not differ, and from N on. Followed from byte 0 they give the plan: at a 0 go on to the next point,
+ *   else a packet of so many points starts here, and the next point is the one behind it.
+ *
+ * Plan and batch are unchanged past the packets that the answer counts.
  */
 VERMOLGAS_NODISCARD
 uint64_t vermolgas_plan(uint32_t points, const uint8_t *held, size_t held_length, const uint8_t *wanted,
                         size_t wanted_length, uint8_t *plan, size_t plan_length, uint8_t *room, size_t room_length,
-                        uint8_t *batch, size_t batch_length);
+                        uint8_t *choices, size_t choices_length, uint8_t *batch, size_t batch_length);
 
+/* The packets of the plan, and the bytes of the batch. */
 #define VERMOLGAS_PLAN_PACKETS(answer) VERMOLGAS_FIELD(size_t, answer, 8, 0xFFFFFFu)
 #define VERMOLGAS_PLAN_BYTES(answer)   VERMOLGAS_FIELD(size_t, answer, 32, 0xFFFFFFFFu)
 

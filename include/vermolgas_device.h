@@ -379,14 +379,16 @@ VERMOLGAS_INLINE_ struct vermolgas_command vermolgas_make_checked(const uint8_t 
                                   packet + VERMOLGAS_READ_OFFSET(read), VERMOLGAS_READ_LENGTH(read));
 }
 
-/* The upload of a map: what the device holds, what it is to hold, and what planning writes. points, packets and bytes
- * are those of the plan, and all 0 while there is none: in a zeroed upload, after vermolgas_upload_start, and after a
- * point was set. A plan for equal maps has points, but no packet. */
+/* The upload of a map: what the device holds, what it is to hold, and what planning writes. Planning works in room and
+ * choices (vermolgas.h says what they hold then); nothing else here needs them. points, packets and bytes are those of
+ * the plan, and all 0 while there is none: in a zeroed upload, after vermolgas_upload_start, and after a point was set.
+ * A plan for equal maps has points, but no packet. */
 struct vermolgas_upload {
     uint8_t held[VERMOLGAS_MAP_BYTES];
     uint8_t wanted[VERMOLGAS_MAP_BYTES];
     uint8_t plan[VERMOLGAS_PLAN_LIST_BYTES];
     uint8_t room[VERMOLGAS_ROOM_BYTES];
+    uint8_t choices[VERMOLGAS_CHOICES_BYTES];
     uint8_t batch[VERMOLGAS_BATCH_BYTES];
     uint32_t points;
     size_t packets;
@@ -452,7 +454,8 @@ VERMOLGAS_INLINE_ unsigned vermolgas_upload_plan(struct vermolgas_upload *upload
     if (upload == NULL)
         return VERMOLGAS_REFUSED_LENT;
     answer = vermolgas_plan(points, upload->held, length, upload->wanted, length, upload->plan, sizeof upload->plan,
-                            upload->room, sizeof upload->room, upload->batch, sizeof upload->batch);
+                            upload->room, sizeof upload->room, upload->choices, sizeof upload->choices,
+                            upload->batch, sizeof upload->batch);
     if (VERMOLGAS_STATUS(answer) == VERMOLGAS_ACCEPTED) {
         upload->points = points;
         upload->packets = VERMOLGAS_PLAN_PACKETS(answer);

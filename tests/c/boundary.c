@@ -367,13 +367,13 @@ static void read_replies(void)
 }
 
 /* What is lent to plan, in the order of the arguments. */
-enum { HELD, WANTED, PLAN, ROOM, BATCH, LENT };
+enum { HELD, WANTED, PLAN, ROOM, CHOICES, BATCH, LENT };
 
 static uint64_t plan(uint32_t points, struct buffer *lent)
 {
     return vermolgas_plan(points, lent[HELD].bytes, lent[HELD].length, lent[WANTED].bytes, lent[WANTED].length,
-                          lent[PLAN].bytes, lent[PLAN].length, lent[ROOM].bytes, lent[ROOM].length, lent[BATCH].bytes,
-                          lent[BATCH].length);
+                          lent[PLAN].bytes, lent[PLAN].length, lent[ROOM].bytes, lent[ROOM].length,
+                          lent[CHOICES].bytes, lent[CHOICES].length, lent[BATCH].bytes, lent[BATCH].length);
 }
 
 /* Maps of so many points, and the rest of the right lengths. With step 0 all points differ, else all but each
@@ -381,7 +381,7 @@ static uint64_t plan(uint32_t points, struct buffer *lent)
 static void start_plan(struct buffer *lent, size_t points, size_t step)
 {
     size_t lengths[LENT] = {VERMOLGAS_POINT_BYTES * points, VERMOLGAS_POINT_BYTES * points, VERMOLGAS_PLAN_LIST_BYTES,
-                            VERMOLGAS_ROOM_BYTES, VERMOLGAS_BATCH_BYTES};
+                            VERMOLGAS_ROOM_BYTES, VERMOLGAS_CHOICES_BYTES, VERMOLGAS_BATCH_BYTES};
     for (int part = 0; part < LENT; part++)
         lent[part] = pattern(lengths[part]);
     for (size_t point = 0; point < points; point++) {
@@ -406,6 +406,48 @@ static void refuse_plan(uint32_t points, struct buffer *lent, uint64_t due)
         CHECK(unchanged(&lent[part]));
 }
 
+static size_t word(const uint8_t *bytes)
+{
+    return bytes[0] | (size_t)bytes[1] << 8;
+}
+
+/* The choices: 0 exactly where no point differs; followed from the first point on they are the plan. */
+static void check_choices(const struct buffer *lent, size_t points, size_t packets)
+{
+    const uint8_t *choices = lent[CHOICES].bytes, *listed = lent[PLAN].bytes;
+    size_t next = 0, packet = 0;
+    for (size_t point = 0; point < VERMOLGAS_CHOICES_BYTES; point++) {
+        bool differs = point < points && memcmp(lent[HELD].bytes + VERMOLGAS_POINT_BYTES * point,
+                                                lent[WANTED].bytes + VERMOLGAS_POINT_BYTES * point,
+                                                VERMOLGAS_POINT_BYTES) != 0;
+        CHECK(differs ? choices[point] >= 1 && choices[point] <= 126 : choices[point] == 0);
+        if (differs && point >= next) {
+            CHECK(packet < packets && word(listed + 4 * packet) == point);
+            CHECK(packet < packets && word(listed + 4 * packet + 2) == choices[point]);
+            next = point + choices[point];
+            packet++;
+        }
+    }
+    CHECK(packet == packets && next <= points);
+}
+
+/* What a plan of so many points left: the room begins with its bytes, and has 0 for no points; what lies behind that
+ * which is written is unchanged. */
+static void check_written(const struct buffer *lent, size_t points, uint64_t answer)
+{
+    CHECK(VERMOLGAS_STATUS(answer) == VERMOLGAS_ACCEPTED);
+    CHECK(unchanged(&lent[HELD]) && unchanged(&lent[WANTED]));
+    CHECK(unchanged_from(&lent[PLAN], 4 * VERMOLGAS_PLAN_PACKETS(answer)));
+    CHECK(unchanged_from(&lent[ROOM], VERMOLGAS_ROOM_BYTES));
+    CHECK(unchanged_from(&lent[CHOICES], VERMOLGAS_CHOICES_BYTES));
+    CHECK(unchanged_from(&lent[BATCH], VERMOLGAS_PLAN_BYTES(answer)));
+    const uint8_t *room = lent[ROOM].bytes;
+    CHECK((word(room) | word(room + 2) << 16) == VERMOLGAS_PLAN_BYTES(answer));
+    for (size_t place = 4 * points; place < VERMOLGAS_ROOM_BYTES; place++)
+        CHECK(room[place] == 0);
+    check_choices(lent, points, VERMOLGAS_PLAN_PACKETS(answer));
+}
+
 /* Plans, and each packet of the batch on a copy of the map, read from a buffer of its length. */
 static void plan_uploads(void)
 {
@@ -416,14 +458,11 @@ static void plan_uploads(void)
             start_plan(lent, numbers[i], step);
             uint64_t answer = plan((uint32_t)numbers[i], lent);
             size_t packets = VERMOLGAS_PLAN_PACKETS(answer), place = 0;
-            CHECK(VERMOLGAS_STATUS(answer) == VERMOLGAS_ACCEPTED);
-            CHECK(unchanged(&lent[HELD]) && unchanged(&lent[WANTED]));
-            CHECK(unchanged_from(&lent[PLAN], 4 * packets));
-            CHECK(unchanged_from(&lent[BATCH], VERMOLGAS_PLAN_BYTES(answer)));
+            check_written(lent, numbers[i], answer);
             struct buffer map = lend(lent[HELD].bytes, lent[HELD].length);
             for (size_t packet = 0; packet < packets; packet++) {
                 const uint8_t *listed = lent[PLAN].bytes + 4 * packet;
-                size_t first = listed[0] | (size_t)listed[1] << 8, count = listed[2] | (size_t)listed[3] << 8;
+                size_t first = word(listed), count = word(listed + 2);
                 struct buffer sent = lend(lent[BATCH].bytes + place, 6 + VERMOLGAS_POINT_BYTES * count);
                 uint64_t read = vermolgas_read(sent.bytes, sent.length);
                 CHECK(VERMOLGAS_STATUS(read) == VERMOLGAS_ACCEPTED && VERMOLGAS_READ_OPCODE(read) == 0x34);
@@ -441,6 +480,64 @@ static void plan_uploads(void)
     }
 }
 
+/* Another buffer of this length in the place of a part. */
+static void lend_anew(struct buffer *lent, int part, size_t length)
+{
+    give_back(&lent[part]);
+    lent[part] = pattern(length);
+}
+
+static bool same_start(const struct buffer *one, const struct buffer *other, size_t length)
+{
+    return memcmp(one->bytes, other->bytes, length) == 0;
+}
+
+/* A plan with some of room, choices and batch longer by so much, held against one with the least lengths. */
+static void plan_longer(size_t points, unsigned longer, size_t more)
+{
+    struct buffer least[LENT], lent[LENT];
+    start_plan(least, points, 3);
+    start_plan(lent, points, 3);
+    for (int part = ROOM; part <= BATCH; part++)
+        if (longer >> (part - ROOM) & 1)
+            lend_anew(lent, part, lent[part].length + more);
+    uint64_t answer = plan((uint32_t)points, lent);
+    CHECK(answer == plan((uint32_t)points, least));
+    check_written(lent, points, answer);
+    for (int part = PLAN; part <= BATCH; part++)
+        CHECK(same_start(&lent[part], &least[part], least[part].length));
+    end_plan(least);
+    end_plan(lent);
+}
+
+/* Room, choices and batch longer, each by itself and together. */
+static void plan_in_longer_rooms(void)
+{
+    static const size_t numbers[] = {1, 5, 127, VERMOLGAS_MOST_POINTS};
+    static const size_t more[] = {0, 1, 2, 3, 4, 5, 6, 7, 8, 9, 100, 508, 7432, 0x10000};
+    for (size_t i = 0; i < sizeof numbers / sizeof *numbers; i++)
+        for (unsigned longer = 1; longer < 8; longer++)
+            for (size_t j = 0; j < sizeof more / sizeof *more; j++)
+                plan_longer(numbers[i], longer, more[j]);
+}
+
+/* Every length of room and of choices that is too short. */
+static void refuse_short_rooms(void)
+{
+    struct buffer lent[LENT];
+    start_plan(lent, 5, 3);
+    for (int part = ROOM; part <= CHOICES; part++) {
+        size_t right = lent[part].length;
+        for (size_t length = 0; length < right; length++) {
+            lend_anew(lent, part, length);
+            refuse_plan(5, lent, VERMOLGAS_REFUSED_LENT);
+        }
+        lend_anew(lent, part, right);
+    }
+    CHECK(VERMOLGAS_STATUS(plan(5, lent)) == VERMOLGAS_ACCEPTED);
+    end_plan(lent);
+}
+
 /* One of the lengths wrong, or the number of points. */
 static void refuse_plans(void)
 {
@@ -454,9 +551,11 @@ static void refuse_plans(void)
         for (int part = 0; part < LENT; part++) {
             struct buffer kept = lent[part];
             size_t right = kept.length;
-            size_t lengths[] = {0, 1, 2, 3, right / 2, right - 2, right - 1, right + 1, right + 2, 2 * right};
+            size_t lengths[] = {0,         1,         2,         3,         right / 2, right - 2,
+                                right - 1, right + 1, right + 2, right + 3, right + 4, right + 5,
+                                right + 6, right + 7, right + 8, right + 9, 2 * right};
             for (size_t j = 0; j < sizeof lengths / sizeof *lengths; j++) {
-                if (part == BATCH && lengths[j] > right)
+                if (part >= ROOM && lengths[j] > right)
                     continue;
                 lent[part] = pattern(lengths[j]);
                 refuse_plan((uint32_t)numbers[i], lent, VERMOLGAS_REFUSED_LENT);
@@ -473,9 +572,9 @@ static void refuse_plans(void)
 }
 
 static const struct group groups[] = {
-    {"right buffers", right_buffers}, {"wrong buffers", wrong_buffers}, {"cut packets", cut_packets},
-    {"making", make_packets},         {"replies", read_replies},        {"plans", plan_uploads},
-    {"plans refused", refuse_plans},
+    {"right buffers", right_buffers},       {"wrong buffers", wrong_buffers},    {"cut packets", cut_packets},
+    {"making", make_packets},               {"replies", read_replies},           {"plans", plan_uploads},
+    {"longer rooms", plan_in_longer_rooms}, {"short rooms", refuse_short_rooms}, {"plans refused", refuse_plans},
 };
 
 int main(void)

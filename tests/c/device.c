@@ -434,6 +434,8 @@ static void plan_a_map(void)
     CHECK(bytes_are(upload.wanted + 4 * 3, 4, "04 00 34 12") && bytes_are(upload.wanted + 4 * 1983, 4, "05 00 06 00"));
     CHECK(vermolgas_upload_plan(&upload, VERMOLGAS_MOST_POINTS) == VERMOLGAS_ACCEPTED);
     CHECK(upload.packets > 1);
+    CHECK(sizeof upload.room == 508 && sizeof upload.choices == 1984); /* at their least */
+    CHECK(upload.choices[0] == 1 && upload.choices[1] == 0 && upload.choices[3] == 1 && upload.choices[1983] == 1);
 }
 
 static void uploads(void)

@@ -92,6 +92,12 @@ static size_t length_like(size_t right)
     return one_in(32) ? wrong[below(8)] : right;
 }
 
+/* The same where longer ones are taken: every second one is, mostly by few bytes. */
+static size_t length_from(size_t least)
+{
+    return one_in(2) ? length_like(least) : least + (one_in(8) ? below(least) : below(10));
+}
+
 /* What is kept, of the right length; else a pattern. */
 static void lend_kept(int index, const uint8_t *bytes, size_t right)
 {
@@ -344,22 +350,35 @@ static void lend_maps(size_t points)
     lend_kept(1, map, length);
 }
 
+/* Whether a plan of so many points was lent the right lengths. */
+static bool right_for(uint32_t points)
+{
+    size_t map = VERMOLGAS_POINT_BYTES * (size_t)points;
+    return points >= 1 && points <= VERMOLGAS_MOST_POINTS && buffers[0].length == map && buffers[1].length == map &&
+           buffers[2].length == VERMOLGAS_PLAN_LIST_BYTES && buffers[3].length >= VERMOLGAS_ROOM_BYTES &&
+           buffers[4].length >= VERMOLGAS_CHOICES_BYTES && buffers[5].length >= VERMOLGAS_BATCH_BYTES;
+}
+
 static void try_plan(bool *accepted)
 {
     static const uint32_t wrong[] = {0, VERMOLGAS_MOST_POINTS + 1, 0x10001, UINT32_MAX};
     uint32_t points = (uint32_t)(1 + below(one_in(16) ? VERMOLGAS_MOST_POINTS : 130));
     lend_maps(points);
     lend_pattern(2, length_like(VERMOLGAS_PLAN_LIST_BYTES));
-    lend_pattern(3, length_like(VERMOLGAS_ROOM_BYTES));
-    lend_pattern(4, length_like(VERMOLGAS_BATCH_BYTES));
+    lend_pattern(3, length_from(VERMOLGAS_ROOM_BYTES));
+    lend_pattern(4, length_from(VERMOLGAS_CHOICES_BYTES));
+    lend_pattern(5, length_from(VERMOLGAS_BATCH_BYTES));
     if (one_in(32))
         points = wrong[below(4)];
     uint64_t answer = vermolgas_plan(points, buffers[0].bytes, buffers[0].length, buffers[1].bytes, buffers[1].length,
                                      buffers[2].bytes, buffers[2].length, buffers[3].bytes, buffers[3].length,
-                                     buffers[4].bytes, buffers[4].length);
+                                     buffers[4].bytes, buffers[4].length, buffers[5].bytes, buffers[5].length);
     *accepted = VERMOLGAS_STATUS(answer) == VERMOLGAS_ACCEPTED;
-    CHECK(unchanged_from(0, 0) && unchanged_from(1, 0) && (*accepted || unchanged_from(3, 0)));
-    CHECK(unchanged_from(2, 4 * VERMOLGAS_PLAN_PACKETS(answer)) && unchanged_from(4, VERMOLGAS_PLAN_BYTES(answer)));
+    CHECK(*accepted == right_for(points));
+    CHECK(unchanged_from(0, 0) && unchanged_from(1, 0));
+    CHECK(unchanged_from(3, *accepted ? VERMOLGAS_ROOM_BYTES : 0));
+    CHECK(unchanged_from(4, *accepted ? VERMOLGAS_CHOICES_BYTES : 0));
+    CHECK(unchanged_from(2, 4 * VERMOLGAS_PLAN_PACKETS(answer)) && unchanged_from(5, VERMOLGAS_PLAN_BYTES(answer)));
 }
 
 /* Entries with their share of the calls. */

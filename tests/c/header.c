@@ -2,6 +2,7 @@
 #include "check.h"
 #include "vermolgas.h"
 
+#include <stdbool.h>
 #include <string.h>
 
 /* A packet or reply with its length, from a list of bytes. */
@@ -220,7 +221,8 @@ static void read_replies(void)
 /* Maps of full size, and what planning writes. */
 static struct {
     uint8_t held[VERMOLGAS_MAP_BYTES], wanted[VERMOLGAS_MAP_BYTES];
-    uint8_t plan[VERMOLGAS_PLAN_LIST_BYTES], room[VERMOLGAS_ROOM_BYTES], batch[VERMOLGAS_BATCH_BYTES];
+    uint8_t plan[VERMOLGAS_PLAN_LIST_BYTES], room[VERMOLGAS_ROOM_BYTES], choices[VERMOLGAS_CHOICES_BYTES];
+    uint8_t batch[VERMOLGAS_BATCH_BYTES];
 } upload;
 
 static uint64_t plan(uint32_t points)
@@ -228,9 +230,11 @@ static uint64_t plan(uint32_t points)
     size_t length = points <= VERMOLGAS_MOST_POINTS ? VERMOLGAS_POINT_BYTES * (size_t)points : 0;
     memset(upload.plan, 0xAA, sizeof upload.plan);
     memset(upload.room, 0xAA, sizeof upload.room);
+    memset(upload.choices, 0xAA, sizeof upload.choices);
     memset(upload.batch, 0xAA, sizeof upload.batch);
     return vermolgas_plan(points, upload.held, length, upload.wanted, length, upload.plan, sizeof upload.plan,
-                          upload.room, sizeof upload.room, upload.batch, sizeof upload.batch);
+                          upload.room, sizeof upload.room, upload.choices, sizeof upload.choices, upload.batch,
+                          sizeof upload.batch);
 }
 
 /* The room's number at an index. */
@@ -240,11 +244,30 @@ static uint32_t room(size_t index)
     return bytes[0] | (uint32_t)bytes[1] << 8 | (uint32_t)bytes[2] << 16 | (uint32_t)bytes[3] << 24;
 }
 
+/* Whether all of these bytes are 0. */
+static bool all_zero(const uint8_t *bytes, size_t length)
+{
+    size_t i = 0;
+    while (i < length && bytes[i] == 0)
+        i++;
+    return i == length;
+}
+
+/* Whether the rooms begin with these numbers and choices, one for each point, and have 0 behind them. */
+static bool rooms_are(const uint32_t *numbers, const uint8_t *choices, size_t points)
+{
+    size_t i = 0;
+    while (i < points && room(i) == numbers[i] && upload.choices[i] == choices[i])
+        i++;
+    return i == points && all_zero(upload.room + 4 * points, sizeof upload.room - 4 * points) &&
+           all_zero(upload.choices + points, sizeof upload.choices - points);
+}
+
 static void plan_uploads(void)
 {
     CHECK(VERMOLGAS_MOST_POINTS * VERMOLGAS_POINT_BYTES == VERMOLGAS_MAP_BYTES);
     CHECK(plan(5) == VERMOLGAS_ACCEPTED);
-    CHECK(upload.plan[0] == 0xAA && upload.batch[0] == 0xAA && room(0) == 0 && room(1984) == 0);
+    CHECK(upload.plan[0] == 0xAA && upload.batch[0] == 0xAA && rooms_are(NULL, NULL, 0));
 
     /* Points 0 and 2: one packet of 18 bytes. */
     upload.wanted[0] = 1;
@@ -256,7 +279,7 @@ static void plan_uploads(void)
     CHECK(memcmp(upload.plan, (const uint8_t[]){0, 0, 3, 0, 0xAA}, 5) == 0);
     CHECK(memcmp(upload.batch, (const uint8_t[]){0x14, 0x34, 14, 0, 0, 0, 1, 0, 0, 0, 0, 0, 0, 0, 0, 0, 0, 2, 0xAA},
                  19) == 0);
-    CHECK(room(0) == 18 && room(1) == 10 && room(2) == 10 && room(3) == 0 && room(5) == 0);
+    CHECK(rooms_are((const uint32_t[]){18, 10, 10}, (const uint8_t[]){3, 0, 1}, 3));
 
     /* Points 0 and 3 differ: two packets, 20 bytes. */
     upload.wanted[4 * 2 + 3] = 0;
@@ -266,36 +289,94 @@ static void plan_uploads(void)
     CHECK(VERMOLGAS_PLAN_BYTES(answer) == 20);
     CHECK(memcmp(upload.plan, (const uint8_t[]){0, 0, 1, 0, 3, 0, 1, 0, 0xAA}, 9) == 0);
     CHECK(upload.batch[20] == 0xAA);
+    CHECK(rooms_are((const uint32_t[]){20, 10, 10, 10}, (const uint8_t[]){1, 0, 0, 1}, 4));
 
     /* The staged map after reset is held; the front end takes the packets. */
     CHECK(vermolgas_reset(LENT) == VERMOLGAS_ACCEPTED);
     answer = plan(VERMOLGAS_MOST_POINTS);
     CHECK(VERMOLGAS_PLAN_PACKETS(answer) == 2);
+    CHECK(rooms_are((const uint32_t[]){20, 10, 10, 10}, (const uint8_t[]){1, 0, 0, 1}, 4));
     CHECK(send(upload.batch, 10) == replied(0));
     CHECK(send(upload.batch + 10, 10) == replied(0));
     CHECK(memcmp(lent.staged, upload.wanted, sizeof upload.wanted) == 0);
+}
 
-    /* All points differ. */
-    memset(upload.wanted, 0x55, sizeof upload.wanted);
-    answer = plan(VERMOLGAS_MOST_POINTS);
+/* All points from first on and before end differ, but for one; no other does. */
+static void want(size_t first, size_t end, size_t except)
+{
+    memset(upload.held, 0, sizeof upload.held);
+    memset(upload.wanted, 0, sizeof upload.wanted);
+    for (size_t point = first; point < end; point++)
+        upload.wanted[VERMOLGAS_POINT_BYTES * point + point % VERMOLGAS_POINT_BYTES] = point != except;
+}
+
+/* Room and choices where the points don't fit a packet, by hand. */
+static void fill_rooms(void)
+{
+    /* 127 points, all different: one and 126, the smallest first count of many that cost the same. */
+    want(0, 127, 127);
+    CHECK(VERMOLGAS_PLAN_BYTES(plan(127)) == 520);
+    CHECK(room(0) == 520 && upload.choices[0] == 1);
+    for (size_t point = 1; point < 127; point++)
+        CHECK(room(point) == 6 + 4 * (127 - point) && upload.choices[point] == 127 - point);
+    CHECK(all_zero(upload.choices + 127, sizeof upload.choices - 127));
+
+    /* 128 points, all different but 63. */
+    want(0, 128, 63);
+    CHECK(VERMOLGAS_PLAN_BYTES(plan(128)) == 520);
+    CHECK(room(0) == 520 && room(1) == 516 && room(2) == 510 && room(62) == 270 && room(63) == 262);
+    CHECK(room(64) == 262 && room(126) == 14);
+    CHECK(memcmp(upload.choices, (const uint8_t[]){63, 62, 126, 125}, 4) == 0);
+    CHECK(memcmp(upload.choices + 62, (const uint8_t[]){66, 0, 64, 63}, 4) == 0);
+    CHECK(memcmp(upload.choices + 125, (const uint8_t[]){3, 2, 1, 0}, 4) == 0);
+
+    /* The last point alone: the room does not reach it. */
+    want(1983, 1984, 0);
+    CHECK(VERMOLGAS_PLAN_BYTES(plan(VERMOLGAS_MOST_POINTS)) == 10);
+    CHECK(room(0) == 10 && room(1) == 10 && room(125) == 10 && room(126) == 10);
+    CHECK(all_zero(upload.choices, 1983) && upload.choices[1983] == 1);
+
+    /* A full map: 94 points, then 15 times 126. */
+    want(0, 1984, 1984);
+    uint64_t answer = plan(VERMOLGAS_MOST_POINTS);
     CHECK(VERMOLGAS_PLAN_PACKETS(answer) == 16);
     CHECK(VERMOLGAS_PLAN_BYTES(answer) == VERMOLGAS_BATCH_BYTES);
     CHECK(memcmp(upload.plan, (const uint8_t[]){0, 0, 94, 0, 94, 0, 126, 0}, 8) == 0);
+    CHECK(room(0) == 8032 && room(1) == 8028 && room(93) == 7660 && room(94) == 7650 && room(126) == 7522);
+    CHECK(memcmp(upload.choices, (const uint8_t[]){94, 93, 92}, 3) == 0);
+    CHECK(memcmp(upload.choices + 93, (const uint8_t[]){1, 126, 125}, 3) == 0);
+    CHECK(memcmp(upload.choices + 1857, (const uint8_t[]){1, 126, 125}, 3) == 0);
+    CHECK(upload.choices[1983] == 1);
+}
 
+/* A plan for one point, with these lengths. */
+static uint64_t plan_in(size_t room_length, size_t choices_length, size_t batch_length)
+{
+    return vermolgas_plan(1, upload.held, 4, upload.wanted, 4, upload.plan, sizeof upload.plan, upload.room,
+                          room_length, upload.choices, choices_length, upload.batch, batch_length);
+}
+
+static void refuse_plans(void)
+{
+    size_t least = VERMOLGAS_ROOM_BYTES, choices = VERMOLGAS_CHOICES_BYTES, batch = VERMOLGAS_BATCH_BYTES;
+
+    CHECK(least == 508 && choices == 1984 && batch == 8032);
     CHECK(plan(0) == VERMOLGAS_REFUSED_RANGE);
     CHECK(plan(VERMOLGAS_MOST_POINTS + 1) == VERMOLGAS_REFUSED_RANGE);
     CHECK(plan(UINT32_MAX) == VERMOLGAS_REFUSED_RANGE);
-    CHECK(upload.plan[0] == 0xAA && upload.room[0] == 0xAA && upload.batch[0] == 0xAA);
-    CHECK(vermolgas_plan(1, upload.held, 4, upload.wanted, 4, upload.plan, sizeof upload.plan, upload.room,
-                         sizeof upload.room, upload.batch, sizeof upload.batch - 1) == VERMOLGAS_REFUSED_LENT);
-    CHECK(vermolgas_plan(1, NULL, 0, NULL, 0, NULL, 0, NULL, 0, NULL, 0) == VERMOLGAS_REFUSED_LENT);
-    CHECK(vermolgas_plan(0, NULL, 0, NULL, 0, NULL, 0, NULL, 0, NULL, 0) == VERMOLGAS_REFUSED_RANGE);
+    CHECK(plan_in(least - 1, choices, batch) == VERMOLGAS_REFUSED_LENT);
+    CHECK(plan_in(least, choices - 1, batch) == VERMOLGAS_REFUSED_LENT);
+    CHECK(plan_in(least, choices, batch - 1) == VERMOLGAS_REFUSED_LENT);
+    CHECK(vermolgas_plan(1, NULL, 0, NULL, 0, NULL, 0, NULL, 0, NULL, 0, NULL, 0) == VERMOLGAS_REFUSED_LENT);
+    CHECK(vermolgas_plan(0, NULL, 0, NULL, 0, NULL, 0, NULL, 0, NULL, 0, NULL, 0) == VERMOLGAS_REFUSED_RANGE);
+    CHECK(upload.plan[0] == 0xAA && upload.room[0] == 0xAA && upload.choices[0] == 0xAA && upload.batch[0] == 0xAA);
 }
 
 static const struct group groups[] = {
-    {"reset", reset_controllers}, {"packets", send_packets},           {"packets refused", refuse_sent_packets},
-    {"reading", read_packets},    {"reading refused", refuse_packets}, {"making", make_packets},
-    {"replies", read_replies},    {"checksums", compare_checksums},    {"plans", plan_uploads},
+    {"reset", reset_controllers},     {"packets", send_packets},           {"packets refused", refuse_sent_packets},
+    {"reading", read_packets},        {"reading refused", refuse_packets}, {"making", make_packets},
+    {"replies", read_replies},        {"checksums", compare_checksums},    {"plans", plan_uploads},
+    {"room and choices", fill_rooms}, {"plans refused", refuse_plans},
 };
 
 int main(void)

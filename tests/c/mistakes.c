@@ -27,7 +27,7 @@ void mistakes(void)
     vermolgas_read(bytes, 3);                                                  /* caught */
     vermolgas_make(0x11, 0, bytes, 1, bytes, sizeof bytes);                    /* caught */
     vermolgas_read_reply(bytes, 3, 0);                                         /* caught */
-    vermolgas_plan(1, NULL, 0, NULL, 0, NULL, 0, NULL, 0, NULL, 0);            /* caught */
+    vermolgas_plan(1, NULL, 0, NULL, 0, NULL, 0, NULL, 0, NULL, 0, NULL, 0);   /* caught */
     vermolgas_refusal_text(1);                                                 /* caught */
     vermolgas_device_reset(&device);                                           /* caught */
     vermolgas_device_send(&device, bytes, 3, &reply);                          /* caught */

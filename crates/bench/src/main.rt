@@ -1,6 +1,7 @@
 // Reads each bench packet of rule 8.1, says what it found, and makes the packet again from its reading; then plans the uploads of
 // the bench maps.
 use packet::Reading;
+use planning::Answer;
 ghost use Prim.Native.Nat.{_<_};
 ghost use lib.ListN.{length};
 
@@ -29,9 +30,12 @@ fn main() {
     // Points 0 and 2 differ; points 0 and 3 differ.
     present_plan(&[0, 0, 0, 0, 0, 0, 0, 0], &[1, 2, 0, 0, 3, 4, 0, 0]);
     present_plan(&[0, 0, 0, 0, 0, 0, 0, 0], &[1, 2, 0, 0, 0, 0, 3, 4]);
-    io::write_all(1, b"lengths and points that planning refuses\n");
+    io::write_all(
+        1,
+        b"lengths and points that planning refuses, and two that it takes\n",
+    );
     present_refusals(
-        b"\x00\x00\x08\x00\x08\x00\x80\x0f\xc1\x07\x60\x1f\xc1\x07\x08\x00\x08\x00\x80\x0f\xc1\x07\x60\x1f\x03\x00\x08\x00\x08\x00\x80\x0f\xc1\x07\x60\x1f\x04\x00\x07\x00\x08\x00\x80\x0f\xc1\x07\x60\x1f\x04\x00\x09\x00\x08\x00\x80\x0f\xc1\x07\x60\x1f\x04\x00\x08\x00\x07\x00\x80\x0f\xc1\x07\x60\x1f\x04\x00\x08\x00\x09\x00\x80\x0f\xc1\x07\x60\x1f\x04\x00\x08\x00\x08\x00\x7f\x0f\xc1\x07\x60\x1f\x04\x00\x08\x00\x08\x00\x81\x0f\xc1\x07\x60\x1f\x04\x00\x08\x00\x08\x00\x80\x0f\xc0\x07\x60\x1f\x04\x00\x08\x00\x08\x00\x80\x0f\xc2\x07\x60\x1f\x04\x00\x08\x00\x08\x00\x80\x0f\xc1\x07\x5f\x1f\x04\x00\x08\x00\x08\x00\x80\x0f\xc1\x07\x60\x1f",
+        b"\x00\x00\x08\x00\x08\x00\x80\x0f\x7f\x00\xc0\x07\x60\x1f\xc1\x07\x08\x00\x08\x00\x80\x0f\x7f\x00\xc0\x07\x60\x1f\x03\x00\x08\x00\x08\x00\x80\x0f\x7f\x00\xc0\x07\x60\x1f\x04\x00\x07\x00\x08\x00\x80\x0f\x7f\x00\xc0\x07\x60\x1f\x04\x00\x09\x00\x08\x00\x80\x0f\x7f\x00\xc0\x07\x60\x1f\x04\x00\x08\x00\x07\x00\x80\x0f\x7f\x00\xc0\x07\x60\x1f\x04\x00\x08\x00\x09\x00\x80\x0f\x7f\x00\xc0\x07\x60\x1f\x04\x00\x08\x00\x08\x00\x7f\x0f\x7f\x00\xc0\x07\x60\x1f\x04\x00\x08\x00\x08\x00\x81\x0f\x7f\x00\xc0\x07\x60\x1f\x04\x00\x08\x00\x08\x00\x80\x0f\x7e\x00\xc0\x07\x60\x1f\x04\x00\x08\x00\x08\x00\x80\x0f\x7f\x00\xbf\x07\x60\x1f\x04\x00\x08\x00\x08\x00\x80\x0f\x7f\x00\xc0\x07\x5f\x1f\x04\x00\x08\x00\x08\x00\x80\x0f\x7f\x00\xc0\x07\x60\x1f\x04\x00\x08\x00\x08\x00\x80\x0f\x80\x00\xc1\x07\x61\x1f",
     );
 }
 
@@ -39,13 +43,36 @@ fn main() {
 fn present_plan(held: &[u16], wanted: &[u16]) {
     let mut plan = [0u16; planning::PLAN_SIZE];
     let mut room = [0u32; planning::ROOM_SIZE];
+    let mut choices = [0u8; planning::CHOICES_SIZE];
     let mut batch = [0u8; planning::BATCH_SIZE];
-    let a = planner16::plan(4, held, wanted, &mut plan, &mut room, &mut batch);
-    print_number(b"plan: status ", a.status as u64);
-    print_number(b", packets ", a.packets as u64);
-    print_number(b", bytes ", a.bytes as u64);
+    let a = planner16::plan(
+        4,
+        held,
+        wanted,
+        &mut plan,
+        &mut room,
+        &mut choices,
+        &mut batch,
+    );
+    let bytes = a.bytes;
+    print_answer(b"plan: status ", a);
     io::write_all(1, b"\n");
-    show_packets(&batch, a.bytes);
+    show_packets(&batch, bytes);
+    show_rooms(&room, &choices);
+}
+
+// The room's numbers and the choices of four points and of one behind them.
+fn show_rooms(room: &[u32], choices: &[u8])
+    requires { ⌜ (4 < length (now room)) × (4 < length (now choices)) ⌝ }
+{
+    let mut k = 0;
+    while k < 5 {
+        print_number(b"  bytes from point ", k as u64);
+        print_number(b" on ", wider(room[k]));
+        print_number(b", choice ", wire::byte(choices, k) as u64);
+        io::write_all(1, b"\n");
+        k += 1;
+    }
 }
 
 // The packets in the first n bytes of a batch, a line each: where one ends its own header and length field say.
@@ -63,17 +90,26 @@ fn show_packets(batch: &[u8], n: usize) {
     }
 }
 
-// Numbers of points that no map has, and each lent list once too short or too long; at last all is right. A row of the script has the number of
-// points and the lengths of held, wanted, plan, room and batch.
+// Numbers of points that no map has, and each lent list once too short, the exact ones too long as well; at last all is right, and then room,
+// choices and batch are longer. A row of the script has the number of points and the lengths of held, wanted, plan, room, choices and batch.
 fn present_refusals(script: &[u8]) {
     let map = [0u16; 9];
     let mut plan = [7u16; planning::PLAN_SIZE + 1];
     let mut room = [7u32; planning::ROOM_SIZE + 1];
-    let mut batch = [7u8; planning::BATCH_SIZE];
+    let mut choices = [7u8; planning::CHOICES_SIZE + 1];
+    let mut batch = [7u8; planning::BATCH_SIZE + 1];
     let mut at = 0;
     while at < script.len() {
-        plan_part(script, at, &map, &mut plan, &mut room, &mut batch);
-        at += 12;
+        plan_part(
+            script,
+            at,
+            &map,
+            &mut plan,
+            &mut room,
+            &mut choices,
+            &mut batch,
+        );
+        at += 14;
     }
 }
 
@@ -84,6 +120,7 @@ fn plan_part(
     map: &[u16],
     plan: &mut [u16],
     room: &mut [u32],
+    choices: &mut [u8],
     batch: &mut [u8],
 )
     requires { ⌜ at < length (now script) ⌝ }
@@ -93,7 +130,8 @@ fn plan_part(
     let w = wire::word(script, at + 4);
     let p = wire::word(script, at + 6);
     let r = wire::word(script, at + 8);
-    let b = wire::word(script, at + 10);
+    let c = wire::word(script, at + 10);
+    let b = wire::word(script, at + 12);
     if map.len() < h {
         return;
     }
@@ -106,6 +144,9 @@ fn plan_part(
     if room.len() < r {
         return;
     }
+    if choices.len() < c {
+        return;
+    }
     if batch.len() < b {
         return;
     }
@@ -115,6 +156,7 @@ fn plan_part(
         &map[..w],
         &mut plan[..p],
         &mut room[..r],
+        &mut choices[..c],
         &mut batch[..b],
     );
 }
@@ -125,16 +167,27 @@ fn try_plan(
     wanted: &[u16],
     plan: &mut [u16],
     room: &mut [u32],
+    choices: &mut [u8],
     batch: &mut [u8],
 ) {
-    let a = planner16::plan(points, held, wanted, plan, room, batch);
-    print_number(b"  status ", a.status as u64);
-    print_number(b", packets ", a.packets as u64);
-    print_number(b", bytes ", a.bytes as u64);
+    let a = planner16::plan(points, held, wanted, plan, room, choices, batch);
+    print_answer(b"  status ", a);
+    show_left(plan, room, choices, batch);
+}
+
+// What stands first in each list.
+fn show_left(plan: &[u16], room: &[u32], choices: &[u8], batch: &[u8]) {
     print_number(b"; left ", first_of(plan));
     print_number(b" ", first_long(room));
+    print_number(b" ", wire::byte(choices, 0) as u64);
     print_number(b" ", wire::byte(batch, 0) as u64);
     io::write_all(1, b"\n");
+}
+
+fn print_answer(text: &[u8], a: Answer) {
+    print_number(text, a.status as u64);
+    print_number(b", packets ", a.packets as u64);
+    print_number(b", bytes ", a.bytes as u64);
 }
 
 fn first_of(list: &[u16]) -> u64 {

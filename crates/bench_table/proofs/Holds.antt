@@ -24,9 +24,9 @@ use Rattle.controller.proofs.Demands.{state-lent}
 use Rattle.controller8.specs.Bytes.{outBytes}
 use Rattle.controller8.proofs.Promises.{step-bytes}
 use Rattle.packet.specs.Making.{packetOf}
-use Rattle.upload.specs.Cost.{differs, best, rooms, more}
+use Rattle.upload.specs.Cost.{differs, best, rooms, more, choices}
 use Rattle.upload.specs.Plan.{planFrom, planOf, packetFor, packetsOf, joined, batchOf, planNumbers}
-use Rattle.upload.specs.Planning.{sheets, PlanOut, planOut, bytePlanOut, planned}
+use Rattle.upload.specs.Planning.{sheets, PlanOut, planOut, firsts, bytePlanOut, planned}
 use Rattle.upload.proofs.Outcome.{plan-bytes}
 use Rattle.bench_table.specs.Table.{PacketRow, PlanRow, BenchRow, packets, plans, rows, buffer, blank, stateAfter}
 use Rattle.bench_table.specs.Holds.{packetOut, planRowOut, PacketHolds, PlanHolds, EachHolds}
@@ -56,6 +56,7 @@ samePlan o q =
     && eqb (o .bytes) (q .bytes)
     && sameList (o .left .plan) (q .left .plan)
     && sameList (o .left .room) (q .left .room)
+    && sameList (o .left .choices) (q .left .choices)
     && sameList (o .left .batch) (q .left .batch)
 
 abbrev holds : BenchRow → Bool
@@ -68,7 +69,7 @@ allHold [] = true
 allHold (r ∷ rs) = holds r && allHold rs
 
 all-hold : T (allHold rows)
-unfolding checksum over fault wordsAt riseFrom rise firstLarge commandOf judgement pointsSizeWrong gainsSizeWrong controlSizeWrong smoothSizeWrong sizeWrong gainsFault listsFault controlFault smoothFault valueFault replyBytes placeOf pictureFields deviceFields right shapeRight settingsRight resetShape resetBlock resetMap resetGains stopped writeGains readGains readPoints shapeBytes writeShape readShape applyBlock applyLive writeSmooth readSmooth blockAfter written blockBack dataBack runsPast numberOf replyTo step stateAfterAll packetOf differs best rooms more planFrom planOf packetFor packetsOf joined batchOf planNumbers planned
+unfolding checksum over fault wordsAt riseFrom rise firstLarge commandOf judgement pointsSizeWrong gainsSizeWrong controlSizeWrong smoothSizeWrong sizeWrong gainsFault listsFault controlFault smoothFault valueFault replyBytes placeOf pictureFields deviceFields right shapeRight settingsRight resetShape resetBlock resetMap resetGains stopped writeGains readGains readPoints shapeBytes writeShape readShape applyBlock applyLive writeSmooth readSmooth blockAfter written blockBack dataBack runsPast numberOf replyTo step stateAfterAll packetOf differs best rooms more choices firsts planFrom planOf packetFor packetsOf joined batchOf planNumbers planned
 all-hold = tt
 
 -- ---- What it tells.
@@ -106,9 +107,10 @@ same-plan o q t =
     let size : o .bytes ≡ q .bytes = search parts depth 12 in
     let plan : o .left .plan ≡ q .left .plan = search parts depth 12 in
     let room : o .left .room ≡ q .left .room = search parts depth 12 in
+    let choices : o .left .choices ≡ q .left .choices = search parts depth 12 in
     let batch : o .left .batch ≡ q .left .batch = search parts depth 12 in
-    let whole : planOut (o .status) (o .packets) (o .bytes) (sheets (o .left .plan) (o .left .room) (o .left .batch))
-    ≡ planOut (q .status) (q .packets) (q .bytes) (sheets (q .left .plan) (q .left .room) (q .left .batch)) = cc in
+    let whole : planOut (o .status) (o .packets) (o .bytes) (sheets (o .left .plan) (o .left .room) (o .left .choices) (o .left .batch))
+    ≡ planOut (q .status) (q .packets) (q .bytes) (sheets (q .left .plan) (q .left .room) (q .left .choices) (q .left .batch)) = cc in
     whole
 
 -- ---- A row.

@@ -16,7 +16,7 @@ abbrev pub packetOut : PacketRow → Out
 packetOut r = out (r .status) (length (r .reply)) (r .after) (over (r .reply) buffer)
 
 abbrev pub planRowOut : PlanRow → PlanOut
-planRowOut r = planOut (r .status) (r .packets) (r .bytes) (sheets (r .plan) (r .room) (r .batch))
+planRowOut r = planOut (r .status) (r .packets) (r .bytes) (sheets (r .plan) (r .room) (r .choices) (r .batch))
 
 -- A packet's row, of the entries on numbers and on bytes.
 pub record PacketHolds (r : PacketRow) : Type 0 where

@@ -1,8 +1,8 @@
 -- Rule 8.1: the bench packets and plans with a star, one table for one statement. Each row of a packet: the packets before it
 -- from reset on, the packet, the status, all bytes of the reply, and the whole state after. Each row of a plan: the number of
--- points, held and wanted, the whole answer, and all of the three lists that planning leaves.
+-- points, held and wanted, the whole answer, and all of the four lists that planning leaves.
 use Prim.Native.Nat.{ℕ, _+_}
-use mathlib.Core.List.{List, [], _∷_}
+use mathlib.Core.List.{List, [], _∷_, _++_}
 use lib.ListN.{set, replicate}
 use Rattle.settings.specs.Reset.{resetMap}
 use Rattle.controller.specs.State.{State, resetState}
@@ -25,6 +25,7 @@ pub record PlanRow : Type 0 where
   pub bytes : ℕ
   pub plan : List ℕ
   pub room : List ℕ
+  pub choices : List ℕ
   pub batch : List ℕ
 
 pub data BenchRow : Type 0 where
@@ -35,9 +36,9 @@ pub data BenchRow : Type 0 where
 abbrev pub buffer : List ℕ
 buffer = replicate 512 0xA5
 
--- A plan, a working room and a batch buffer of such patterns.
+-- A plan, a working room, choices and a batch buffer of such patterns; all but the plan one longer than they must be.
 abbrev pub blank : Sheets
-blank = sheets (replicate 3968 0xA5A5) (replicate 1985 0xA5A5A5A5) (replicate 8032 0xA5)
+blank = sheets (replicate 3968 0xA5A5) (replicate 128 0xA5A5A5A5) (replicate 1985 0xA5) (replicate 8033 0xA5)
 
 -- The state after packets taken one after another from reset on.
 abbrev pub stateAfter : List (List ℕ) → State
@@ -135,10 +136,11 @@ rows =
       packets = 2;
       bytes = 20;
       plan = 0 ∷ 1 ∷ 3 ∷ 1 ∷ replicate 3964 0xA5A5;
-      room = 20 ∷ 10 ∷ 10 ∷ 10 ∷ replicate 1981 0;
+      room = 20 ∷ 10 ∷ 10 ∷ 10 ∷ (replicate 123 0 ++ (0xA5A5A5A5 ∷ []));
+      choices = 1 ∷ 0 ∷ 0 ∷ 1 ∷ (replicate 1980 0 ++ (0xA5 ∷ []));
       batch =
           0x14 ∷ 0x34 ∷ 0x06 ∷ 0x00 ∷ 0x00 ∷ 0x00 ∷ 0x01 ∷ 0x00 ∷ 0x02 ∷ 0x00
           ∷ 0x14 ∷ 0x34 ∷ 0x06 ∷ 0x00 ∷ 0x03 ∷ 0x00 ∷ 0x09 ∷ 0x00 ∷ 0x0B ∷ 0x02
-          ∷ replicate 8012 0xA5;
+          ∷ replicate 8013 0xA5;
     })
     ∷ []

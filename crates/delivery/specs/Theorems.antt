@@ -1,8 +1,7 @@
 -- What holds over several packets, or of planning apart from any call, so that no one contract can carry it. The crate is proved only with every
 -- line of this list.
-use Prim.Native.Nat.{ℕ, suc, _*_, _≤_, _<_}
+use Prim.Native.Nat.{ℕ, _*_, _≤_, _<_}
 use mathlib.Core.Path.{_≡_}
-use mathlib.Core.Bool.{Bool}
 use mathlib.Core.List.{List, [], _∷_}
 use lib.ListN.{length, take, getD}
 use Rattle.wire.specs.Checksum.{checksum}
@@ -12,7 +11,6 @@ use Rattle.packet.specs.Sound.{Sound}
 use Rattle.controller.specs.State.{State}
 use Rattle.controller.specs.Demands.{LentRight, stagedPoints, LiveKept}
 use Rattle.controller.specs.Calls.{Call, stateAfterAll, NoneApplies}
-use Rattle.upload.specs.Cost.{rooms, more, SmallestCount}
 use Rattle.upload.specs.Plan.{packetsOf, batchOf, EachAnnounced}
 use Rattle.upload.specs.Judge.{MapOf}
 use Rattle.upload.specs.Examples.{Examples}
@@ -25,8 +23,6 @@ pub record Theorems : Type 0 where
   -- packet and leaves wanted.
   pub delivered : (n : ℕ) (held wanted : List ℕ) → MapOf n held → MapOf n wanted → (s : State) (reply : List ℕ) → LentRight s reply
       → stagedPoints (s .block) ≡ n → take (2 * n) (s .staged) ≡ held → Delivered n held wanted s reply
-  -- Rule 6.2: the plan begins at a point that differs with the smallest of the counts that cost least.
-  pub smallest-count : (ds : List Bool) → SmallestCount ds (suc (more 125 (rooms ds)))
   -- Every number of a batch is a byte.
   pub batch-bytes : (n : ℕ) (held wanted : List ℕ) → n ≤ 65536 → MapOf n held → MapOf n wanted → (k : ℕ) → getD (batchOf held wanted) k 0 < 256
   -- Rules 2.1 and 2.4: a sound packet with a length field has as many bytes as it announces.

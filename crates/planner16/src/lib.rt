@@ -1,14 +1,14 @@
-// Upload planning on lists of numbers: maps and plan of 16 bits, working room of 32 bits.
+// Upload planning on lists of numbers: maps and plan of 16 bits, working room of 32 bits, choices of bytes.
 ghost use mathlib.Core.Path.{_≡_};
 ghost use mathlib.Core.Bool.{false};
-ghost use mathlib.Core.List.{[], _∷_, _++_};
-ghost use Prim.Native.Nat.{_+_, _-_, _*_, _≤_, _<_};
-ghost use lib.ListN.{length, take, drop, getD, replicate};
+ghost use mathlib.Core.List.{[], _∷_};
+ghost use Prim.Native.Nat.{_+_, _*_, _%_, _≤_, _<_};
+ghost use lib.ListN.{length, getD, set, replicate};
 ghost use lib.Seq.{sets};
-ghost use Rattle.upload.specs.Sizes.{mostMore, planSize, roomSize, batchSize};
-ghost use Rattle.upload.specs.Cost.{differs, best, least, rooms, more};
-ghost use Rattle.upload.specs.Planning.{sheets, planOut, roomOf, MapsLent, Written, Planned};
-ghost use Rattle.upload.specs.Internal.{Filling, SmallFrom, Countable};
+ghost use Rattle.upload.specs.Sizes.{planSize, batchSize};
+ghost use Rattle.upload.specs.Cost.{differs};
+ghost use Rattle.upload.specs.Plan.{followed};
+ghost use Rattle.upload.specs.Planning.{sheets, planOut, MapsLent, Measured, Followable, Written, Planned};
 use planning::Answer;
 use planning::Lengths;
 
@@ -27,87 +27,50 @@ fn differs_at(held: &[u16], wanted: &[u16], i: usize) -> bool
     false
 }
 
-// The least bytes from a place on, where the open packet may still take k points: j points more cost w bytes more.
-fn low(room: &[u32], from: usize, k: usize) -> u32
-    requires { ⌜ (k ≤ mostMore) × (from + k < length (now room)) × SmallFrom from (now room) ⌝ }
-    ensures { λ r. ⌜ r ≡ best k (drop from (now (room .entry))) ⌝ }
+// Number i of the room, if the room has it.
+fn keep(room: &mut [u32], i: usize, v: u32)
+    ensures { λ _. ⌜ now (room .exit) ≡ set (now (room .entry)) i v ⌝ }
 {
-    let mut m = room[from];
-    let mut j = 0;
-    let mut w: u32 = 0;
-    while j < k {
-        j += 1;
-        w += 4;
-        m = planning::lesser(m, room[from + j] + w);
-    }
-    m
-}
-
-// Rule 6.5: the fewest bytes for point i and those behind it, where the room behind i is filled.
-fn least_at(held: &[u16], wanted: &[u16], room: &[u32], n: usize, i: usize) -> u32
-    requires { ⌜
-        MapsLent 2 n (now held) (now wanted) × Filling n (differs (now held) (now wanted)) (now room) (i + 1)
-        ⌝ }
-    ensures { λ r.
-        ⌜
-        r
-        ≡ least (getD (differs (now (held .entry)) (now (wanted .entry))) i false)
-        (rooms (drop (i + 1) (differs (now (held .entry)) (now (wanted .entry)))))
-        ⌝ }
-{
-    let next = i + 1;
-    if differs_at(held, wanted, i) {
-        return planning::OPENING + low(room, next, planning::span(n - next));
-    }
-    room[next]
-}
-
-// Zeros from a place on.
-fn clear(room: &mut [u32], from: usize)
-    requires { ⌜ from ≤ length (now room) ⌝ }
-    ensures { λ _.
-        ⌜
-        now (room .exit) ≡ take from (now (room .entry)) ++ replicate (length (now (room .entry)) - from) 0
-        ⌝ }
-{
-    let n = room.len() - from;
-    let mut k = 0;
-    while k < n {
-        room[from + k] = 0;
-        k += 1;
-    }
-}
-
-// Fills the working room, from the back.
-pub fn measure(held: &[u16], wanted: &[u16], room: &mut [u32], n: usize)
-    requires { ⌜ MapsLent 2 n (now held) (now wanted) × (length (now room) ≡ roomSize) ⌝ }
-    ensures { λ _. ⌜ now (room .exit) ≡ roomOf n (now (held .entry)) (now (wanted .entry)) ⌝ }
-{
-    clear(room, n);
-    let mut i = n;
-    while 0 < i {
-        i -= 1;
-        let v = least_at(held, wanted, room, n, i);
+    if i < room.len() {
         room[i] = v;
     }
 }
 
-// How many points the packet takes that begins at i, at most so many behind it: the smallest count that costs least.
-fn count_at(room: &[u32], i: usize, most: usize) -> usize
-    requires { ⌜ Countable (now room) i most ⌝ }
-    ensures { λ r. ⌜ r ≡ 1 + more most (drop (i + 1) (now (room .entry))) ⌝ }
+// Zeros everywhere.
+fn clear(room: &mut [u32])
+    ensures { λ _. ⌜ now (room .exit) ≡ replicate (length (now (room .entry))) 0 ⌝ }
 {
-    let next = i + 1;
-    let least = room[i] - planning::OPENING;
-    let mut left = most;
-    while 0 < left {
-        let c = most - left;
-        if room[next + c] + 4 * (c as u32) <= least {
-            return 1 + c;
-        }
-        left -= 1;
+    let mut k = 0;
+    while k < room.len() {
+        room[k] = 0;
+        k += 1;
     }
-    1 + most
+}
+
+// The least bytes for an upload, from the last point back: fills the room and the choices, as far as they reach.
+pub fn measure(held: &[u16], wanted: &[u16], room: &mut [u32], choices: &mut [u8], n: usize) -> u32
+    requires { ⌜
+        MapsLent 2 n (now held) (now wanted)
+        × (length (now choices) % 2 ≡ 0)
+        ⌝ }
+    ensures { λ r.
+        ⌜
+        Measured n (now (held .entry)) (now (wanted .entry)) (length (now (room .entry))) (length (now (choices .entry)))
+        r (now (room .exit)) (now (choices .exit))
+        ⌝ }
+{
+    clear(room);
+    // Two at a time, so their number is even.
+    tables::fill_bytes(choices, 0);
+    let mut p = planning::at_end();
+    let mut i = n;
+    while 0 < i {
+        i -= 1;
+        let differs = differs_at(held, wanted, i);
+        p = planning::choose(differs, choices, i, p);
+        keep(room, i, p.least);
+    }
+    p.least
 }
 
 // One packet of the plan: start and count.
@@ -119,35 +82,27 @@ fn put_part(plan: &mut [u16], p: usize, start: usize, count: usize)
     plan[2 * p + 1] = count as u16;
 }
 
-// Writes the plan and its batch, from the filled room.
-pub fn write(
-    held: &[u16],
-    wanted: &[u16],
-    plan: &mut [u16],
-    room: &[u32],
-    batch: &mut [u8],
-    n: usize,
-) -> Answer
+// Writes the plan and its batch, by following the choices, one for each point.
+fn write(wanted: &[u16], plan: &mut [u16], choices: &[u8], batch: &mut [u8]) -> Answer
     requires { ⌜
-        MapsLent 2 n (now held) (now wanted)
+        Followable (now choices)
+        × (length (now wanted) ≡ 2 * length (now choices))
         × (length (now plan) ≡ planSize)
         × (batchSize ≤ length (now batch))
-        × (now room ≡ roomOf n (now held) (now wanted))
         ⌝ }
     ensures { λ r.
         ⌜
         (r .status ≡ 0)
-        × Written (now (held .entry)) (now (wanted .entry)) (now (plan .entry))
-        (now (batch .entry)) (now (plan .exit)) (now (batch .exit)) (r .packets) (r .bytes)
+        × Written (now (wanted .entry)) (followed 0 0 (now (choices .entry))) (now (plan .entry)) (now (batch .entry))
+        (now (plan .exit)) (now (batch .exit)) (r .packets) (r .bytes)
         ⌝ }
 {
     let mut packets = 0;
     let mut bytes = 0;
     let mut i = 0;
-    while i < n {
-        if differs_at(held, wanted, i) {
-            let most = planning::span(n - (i + 1));
-            let count = count_at(room, i, most);
+    while i < choices.len() {
+        let count = choices[i] as usize;
+        if 0 < count {
             put_part(plan, packets, i, count);
             bytes = batch::numbers::put_packet(batch, bytes, wanted, i, count);
             packets += 1;
@@ -163,20 +118,22 @@ pub fn write(
     }
 }
 
-// Plans the upload of wanted over held: the plan, the working room and the batch of packets.
+// Plans the upload of wanted over held: the plan, the working room, the choices and the batch of packets.
 pub fn plan(
     points: u32,
     held: &[u16],
     wanted: &[u16],
     plan: &mut [u16],
     room: &mut [u32],
+    choices: &mut [u8],
     batch: &mut [u8],
 ) -> Answer
     ensures { λ r.
         ⌜
         Planned points (now (held .entry)) (now (wanted .entry))
-        (sheets (now (plan .entry)) (now (room .entry)) (now (batch .entry)))
-        (planOut (r .status) (r .packets) (r .bytes) (sheets (now (plan .exit)) (now (room .exit)) (now (batch .exit))))
+        (sheets (now (plan .entry)) (now (room .entry)) (now (choices .entry)) (now (batch .entry)))
+        (planOut (r .status) (r .packets) (r .bytes)
+        (sheets (now (plan .exit)) (now (room .exit)) (now (choices .exit)) (now (batch .exit))))
         ⌝ }
 {
     let n = points as usize;
@@ -186,6 +143,7 @@ pub fn plan(
         wanted: wanted.len(),
         plan: plan.len(),
         room: room.len(),
+        choices: choices.len(),
         batch: batch.len(),
     };
     let asked = Lengths {
@@ -193,6 +151,7 @@ pub fn plan(
         wanted: map,
         plan: planning::PLAN_SIZE,
         room: planning::ROOM_SIZE,
+        choices: planning::CHOICES_SIZE,
         batch: planning::BATCH_SIZE,
     };
     let status = planning::refusal(points, lent, asked);
@@ -203,6 +162,12 @@ pub fn plan(
             bytes: 0,
         };
     }
-    measure(held, wanted, room, n);
-    write(held, wanted, plan, room, batch, n)
+    measure(
+        held,
+        wanted,
+        &mut room[..planning::ROOM_SIZE],
+        &mut choices[..planning::CHOICES_SIZE],
+        n,
+    );
+    write(wanted, plan, &choices[..n], batch)
 }

@@ -1,16 +1,21 @@
--- What stores and copies of bytes do to the numbers that the bytes hold.
-use Prim.Native.Nat.{ℕ, zero, suc, _+_, _-_, _*_, _/_, _%_, _≤_}
-use mathlib.Core.Path.{_≡_, refl}
-use mathlib.Core.List.{List, [], _∷_, _++_, append-nil}
+-- What stores, fills and tests of bytes say of the numbers that the bytes hold.
+use Prim.Native.Nat.{ℕ, zero, suc, _+_, _*_, _/_, _%_, _<_}
+use mathlib.Core.Path.{_≡_, refl, sym, _∙_}
+use mathlib.Core.Bool.{Bool, true, false, not, _&&_}
+use mathlib.Core.List.{List, [], _∷_}
 use native.Mathlib.Omega.{arith}
-use lib.ListN.{length, take, drop, set, replicate, length-take, length-drop, length-append, length-replicate, drop-of-length-le}
+use borrow.Author.Tests.{eqb-true, eqb-false, eq-eqb, ne-eqb}
+use lib.Dec.{eqb}
+use lib.ListN.{length, getD, set, replicate}
 use lib.Seq.{sets}
 use Rattle.wire.specs.Numbers.{wordBytes}
 use Rattle.wire.specs.Tables.{pairs, words, bytes, longs}
-use Rattle.wire.proofs.Tables.{length-pairs, length-halves, pairs-append, pairs-take, pairs-set, pairs-halves}
+use Rattle.wire.proofs.Tables.{length-pairs, pairs-set, pairs-halves, pair-at}
 use Rattle.tables.proofs.Bytes.{Below, words-below}
+use Rattle.upload.specs.Cost.{differs}
 use Rattle.upload.specs.Judge.{MapOf}
 use Rattle.upload.specs.Planning.{MapsLent}
+use Rattle.upload.proofs.Differs.{differs-at}
 
 pub length-longs : (s : List ℕ) → length (longs s) ≡ length s / 4
 length-longs s = rw (length-pairs, length-pairs) (omega arith)
@@ -27,46 +32,40 @@ pub put-longs : (s : List ℕ) (i v : ℕ) {s₁ s₂ : List ℕ} → s₁ ≡ s
     → longs s₂ ≡ set (longs s) i v
 put-longs s i v e f = rw (put-words s i (v % 65536) (v / 65536) e f) (pairs-set 65536 (words s) i v)
 
--- Zeros in the part of the room's bytes from a place on.
+-- A room of zeros.
 pairs-zeros : (b m : ℕ) → pairs b (replicate (2 * m) 0) ≡ replicate m 0
 pairs-zeros b zero = refl
 pairs-zeros b (suc m) = let e : 2 * suc m ≡ suc (suc (2 * m)) = omega arith in let z : 0 + b * 0 ≡ 0 = omega arith in rw (e, z, pairs-zeros b m)
 
-pub part-even : (s : List ℕ) (n : ℕ) → length s ≡ 7940 → n ≤ 1984 → length (take (length s - 4 * n) (drop (4 * n) s)) % 2 ≡ 0
-part-even s n l h = simp (length-take, length-drop) (omega arith)
+pub zero-longs : (s : List ℕ) {q : List ℕ} → length s % 4 ≡ 0 → q ≡ bytes (replicate (length s / 2) 0) → longs q ≡ replicate (length (longs s)) 0
+zero-longs s l e =
+    let half : length s / 2 ≡ 2 * (length s / 4) = omega arith in
+    rw (e, pairs-halves 256 (replicate (length s / 2) 0), half, length-longs s) (pairs-zeros 65536 (length s / 4))
 
--- The room with such a part in it.
-abbrev pub cleared : List ℕ → ℕ → List ℕ → List ℕ
-cleared s n q = take (4 * n) s ++ (q ++ drop (length s - 4 * n) (drop (4 * n) s))
+-- A point's two numbers as one.
+one-eqb : (a b c d : ℕ) → a < 65536 → c < 65536 → (eqb a c && eqb b d) ≡ eqb (a + 65536 * b) (c + 65536 * d)
+one-eqb a b c d h g = go (eqb a c) (eqb b d) refl refl
+  where
+    go : (x y : Bool) → eqb a c ≡ x → eqb b d ≡ y → (eqb a c && eqb b d) ≡ eqb (a + 65536 * b) (c + 65536 * d)
+    go true true e f = rw (e, f) (sym (eq-eqb (a + 65536 * b) (c + 65536 * d) (omega (arith, eqb-true))))
+    go true false e f =
+        let other : (b ≡ d) → ⊥ = eqb-false b d f in
+        rw (e, f) (sym (ne-eqb (a + 65536 * b) (c + 65536 * d) (λ z. other (omega arith))))
+    go false y e f =
+        let other : (a ≡ c) → ⊥ = eqb-false a c e in
+        rw e (sym (ne-eqb (a + 65536 * b) (c + 65536 * d) (λ z. other (omega arith))))
 
-module _ (s : List ℕ) (n : ℕ) {q : List ℕ} (l : length s ≡ 7940) (h : n ≤ 1984) (e : q ≡ bytes (replicate (length (take (length s - 4 * n) (drop (4 * n) s)) / 2) 0)) where
-  pub clear-long : length (cleared s n q) ≡ 7940
-  clear-long = rw e (simp (length-append, length-take, length-drop, length-halves, length-replicate) (omega arith))
-
-  pub clear-same : length (longs (cleared s n q)) ≡ length (longs s)
-  clear-same = omega (arith, clear-long, length-longs s, length-longs (cleared s n q))
-
-  pub clear-longs : longs (cleared s n q) ≡ take n (longs s) ++ replicate (length (longs s) - n) 0
-  clear-longs =
-      let low : 4 * n ≡ 2 * (2 * n) = omega arith in
-      let half : length (take (length s - 4 * n) (drop (4 * n) s)) / 2 ≡ 2 * (1985 - n) = simp (length-take, length-drop) (omega arith) in
-      let left : length (longs s) - n ≡ 1985 - n = omega (arith, length-longs s) in
-      let even : length (take (2 * (2 * n)) s) % 2 ≡ 0 = rw length-take (omega arith) in
-      let even′ : length (take (2 * n) (words s)) % 2 ≡ 0 = rw (length-take, length-pairs) (omega arith) in
-      rw (
-        drop-of-length-le (drop (4 * n) s) {i = length s - 4 * n} (rw length-drop (omega arith)),
-        append-nil,
-        e,
-        half,
-        left,
-        low,
-        pairs-append 256 (take (2 * (2 * n)) s) _ even,
-        pairs-take 256 (2 * n) s,
-        pairs-halves 256 (replicate (2 * (1985 - n)) 0),
-        pairs-append 65536 (take (2 * n) (words s)) _ even′,
-        pairs-take 65536 n (words s),
-        pairs-zeros 65536 (1985 - n),
-      )
+pub differs-longs : (h w : List ℕ) (i : ℕ) → 4 * i + 3 < length h → 4 * i + 3 < length w → Below 256 h → Below 256 w
+    → getD (differs (words h) (words w)) i false ≡ not (eqb (getD (longs h) i 0) (getD (longs w) i 0))
+differs-longs h w i l k hs ws =
+    let inside : 2 * i + 1 < length (words h) = rw length-pairs (omega arith) in
+    let inside′ : 2 * i + 1 < length (words w) = rw length-pairs (omega arith) in
+    differs-at (words h) (words w) i inside inside′
+    ∙ rw (
+      one-eqb (getD (words h) (2 * i) 0) (getD (words h) (2 * i + 1) 0) (getD (words w) (2 * i) 0) (getD (words w) (2 * i + 1) 0) (words-below h hs (2 * i)) (words-below w ws (2 * i)),
+      pair-at 65536 (words h) i inside,
+      pair-at 65536 (words w) i inside′,
+    )
 
 -- A map's bytes.
 pub map-words : (n : ℕ) (w : List ℕ) → length w ≡ 4 * n → Below 256 w → MapOf n (words w)

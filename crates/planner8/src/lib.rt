@@ -3,14 +3,14 @@
 ghost use mathlib.Core.Path.{_≡_};
 ghost use mathlib.Core.Bool.{false};
 ghost use mathlib.Core.List.{[], _∷_};
-ghost use Prim.Native.Nat.{_+_, _*_, _≤_, _<_};
-ghost use lib.ListN.{length, drop, getD, set};
+ghost use Prim.Native.Nat.{_+_, _*_, _%_, _≤_, _<_};
+ghost use lib.ListN.{length, getD, set};
 ghost use lib.Seq.{sets};
 ghost use Rattle.wire.specs.Tables.{words, longs};
-ghost use Rattle.upload.specs.Sizes.{mostMore, planSize, roomSize, batchSize};
-ghost use Rattle.upload.specs.Cost.{differs, best, least, rooms, more};
-ghost use Rattle.upload.specs.Planning.{sheets, planOut, roomOf, MapsLent, Written, PlannedBytes};
-ghost use Rattle.upload.specs.Internal.{Filling, SmallFrom, Countable};
+ghost use Rattle.upload.specs.Sizes.{planSize, batchSize};
+ghost use Rattle.upload.specs.Cost.{differs};
+ghost use Rattle.upload.specs.Plan.{followed};
+ghost use Rattle.upload.specs.Planning.{sheets, planOut, MapsLent, Measured, Followable, Written, PlannedBytes};
 use planning::Answer;
 use planning::Lengths;
 
@@ -23,15 +23,6 @@ fn number(low: u8, high: u8) -> u32
     ensures { λ r. ⌜ (r ≡ low + 256 * high) × (r < 65536) ⌝ }
 {
     low as u32 + 256 * (high as u32)
-}
-
-// The 16-bit number i.
-fn word_at(s: &[u8], i: usize) -> u32
-    requires { ⌜ 2 * i + 1 < length (now s) ⌝ }
-    ensures { λ r. ⌜ r ≡ getD (words (now (s .entry))) i 0 ⌝ }
-{
-    let j = 2 * i;
-    number(s[j], s[j + 1])
 }
 
 // The 32-bit number i.
@@ -52,90 +43,48 @@ fn put_long(s: &mut [u8], i: usize, v: u32)
     wire::put_word(s, 4 * i + 2, (v / 65536) as usize);
 }
 
-// Whether a point differs.
+// Whether a point differs: its two numbers as one.
 fn differs_at(held: &[u8], wanted: &[u8], i: usize) -> bool
     requires { ⌜ (4 * i + 3 < length (now held)) × (4 * i + 3 < length (now wanted)) ⌝ }
     ensures { λ r. ⌜ r ≡ getD (differs (words (now (held .entry))) (words (now (wanted .entry)))) i false ⌝ }
 {
-    let j = 2 * i;
-    if word_at(held, j) != word_at(wanted, j) {
-        return true;
-    }
-    if word_at(held, j + 1) != word_at(wanted, j + 1) {
-        return true;
-    }
-    false
+    long_at(held, i) != long_at(wanted, i)
 }
 
-// The least bytes from a place on, where the open packet may still take k points: j points more cost w bytes more.
-fn low(room: &[u8], from: usize, k: usize) -> u32
-    requires { ⌜ (k ≤ mostMore) × (4 * (from + k) + 3 < length (now room)) × SmallFrom from (longs (now room)) ⌝ }
-    ensures { λ r. ⌜ r ≡ best k (drop from (longs (now (room .entry)))) ⌝ }
+// Number i of the room, if the room has it.
+fn keep(room: &mut [u8], i: usize, v: u32)
+    ensures { λ _. ⌜ longs (now (room .exit)) ≡ set (longs (now (room .entry))) i v ⌝ }
 {
-    let mut m = long_at(room, from);
-    let mut j = 0;
-    let mut w: u32 = 0;
-    while j < k {
-        j += 1;
-        w += 4;
-        m = planning::lesser(m, long_at(room, from + j) + w);
-    }
-    m
-}
-
-// Rule 6.5: the fewest bytes for point i and those behind it, where the room behind i is filled.
-fn least_at(held: &[u8], wanted: &[u8], room: &[u8], n: usize, i: usize) -> u32
-    requires { ⌜
-        MapsLent 4 n (now held) (now wanted)
-        × Filling n (differs (words (now held)) (words (now wanted))) (longs (now room)) (i + 1)
-        ⌝ }
-    ensures { λ r.
-        ⌜
-        r
-        ≡ least (getD (differs (words (now (held .entry))) (words (now (wanted .entry)))) i false)
-        (rooms (drop (i + 1) (differs (words (now (held .entry))) (words (now (wanted .entry))))))
-        ⌝ }
-{
-    let next = i + 1;
-    if differs_at(held, wanted, i) {
-        return planning::OPENING + low(room, next, planning::span(n - next));
-    }
-    long_at(room, next)
-}
-
-// Fills the working room, from the back.
-pub fn measure(held: &[u8], wanted: &[u8], room: &mut [u8], n: usize)
-    requires { ⌜ MapsLent 4 n (now held) (now wanted) × (length (now room) ≡ 4 * roomSize) ⌝ }
-    ensures { λ _.
-        ⌜
-        longs (now (room .exit)) ≡ roomOf n (words (now (held .entry))) (words (now (wanted .entry)))
-        ⌝ }
-{
-    tables::fill_bytes(&mut room[4 * n..], 0);
-    let mut i = n;
-    while 0 < i {
-        i -= 1;
-        let v = least_at(held, wanted, room, n, i);
+    if i < room.len() / 4 {
         put_long(room, i, v);
     }
 }
 
-// How many points the packet takes that begins at i, at most so many behind it: the smallest count that costs least.
-fn count_at(room: &[u8], i: usize, most: usize) -> usize
-    requires { ⌜ Countable (longs (now room)) i most ⌝ }
-    ensures { λ r. ⌜ r ≡ 1 + more most (drop (i + 1) (longs (now (room .entry)))) ⌝ }
+// The least bytes for an upload, from the last point back: fills the room and the choices, as far as they reach.
+pub fn measure(held: &[u8], wanted: &[u8], room: &mut [u8], choices: &mut [u8], n: usize) -> u32
+    requires { ⌜
+        MapsLent 4 n (now held) (now wanted)
+        × (length (now room) % 4 ≡ 0)
+        × (length (now choices) % 2 ≡ 0)
+        ⌝ }
+    ensures { λ r.
+        ⌜
+        Measured n (words (now (held .entry))) (words (now (wanted .entry)))
+        (length (longs (now (room .entry)))) (length (now (choices .entry))) r (longs (now (room .exit))) (now (choices .exit))
+        ⌝ }
 {
-    let next = i + 1;
-    let least = long_at(room, i) - planning::OPENING;
-    let mut left = most;
-    while 0 < left {
-        let c = most - left;
-        if long_at(room, next + c) + 4 * (c as u32) <= least {
-            return 1 + c;
-        }
-        left -= 1;
+    tables::fill_bytes(room, 0);
+    // Two at a time, so their number is even.
+    tables::fill_bytes(choices, 0);
+    let mut p = planning::at_end();
+    let mut i = n;
+    while 0 < i {
+        i -= 1;
+        let differs = differs_at(held, wanted, i);
+        p = planning::choose(differs, choices, i, p);
+        keep(room, i, p.least);
     }
-    1 + most
+    p.least
 }
 
 // One packet of the plan: start and count.
@@ -147,35 +96,27 @@ fn put_part(plan: &mut [u8], p: usize, start: usize, count: usize)
     wire::put_word(plan, 4 * p + 2, count);
 }
 
-// Writes the plan and its batch, from the filled room.
-pub fn write(
-    held: &[u8],
-    wanted: &[u8],
-    plan: &mut [u8],
-    room: &[u8],
-    batch: &mut [u8],
-    n: usize,
-) -> Answer
+// Writes the plan and its batch, by following the choices, one for each point.
+fn write(wanted: &[u8], plan: &mut [u8], choices: &[u8], batch: &mut [u8]) -> Answer
     requires { ⌜
-        MapsLent 4 n (now held) (now wanted)
+        Followable (now choices)
+        × (length (now wanted) ≡ 4 * length (now choices))
         × (length (now plan) ≡ 2 * planSize)
         × (batchSize ≤ length (now batch))
-        × (longs (now room) ≡ roomOf n (words (now held)) (words (now wanted)))
         ⌝ }
     ensures { λ r.
         ⌜
         (r .status ≡ 0)
-        × Written (words (now (held .entry))) (words (now (wanted .entry))) (words (now (plan .entry)))
-        (now (batch .entry)) (words (now (plan .exit))) (now (batch .exit)) (r .packets) (r .bytes)
+        × Written (words (now (wanted .entry))) (followed 0 0 (now (choices .entry))) (words (now (plan .entry))) (now (batch .entry))
+        (words (now (plan .exit))) (now (batch .exit)) (r .packets) (r .bytes)
         ⌝ }
 {
     let mut packets = 0;
     let mut bytes = 0;
     let mut i = 0;
-    while i < n {
-        if differs_at(held, wanted, i) {
-            let most = planning::span(n - (i + 1));
-            let count = count_at(room, i, most);
+    while i < choices.len() {
+        let count = choices[i] as usize;
+        if 0 < count {
             put_part(plan, packets, i, count);
             bytes = batch::bytes::put_packet(batch, bytes, wanted, i, count);
             packets += 1;
@@ -191,20 +132,22 @@ pub fn write(
     }
 }
 
-// Plans the upload of wanted over held: the plan, the working room and the batch of packets.
+// Plans the upload of wanted over held: the plan, the working room, the choices and the batch of packets.
 pub fn plan(
     points: u32,
     held: &[u8],
     wanted: &[u8],
     plan: &mut [u8],
     room: &mut [u8],
+    choices: &mut [u8],
     batch: &mut [u8],
 ) -> Answer
     ensures { λ r.
         ⌜
         PlannedBytes points (now (held .entry)) (now (wanted .entry))
-        (sheets (now (plan .entry)) (now (room .entry)) (now (batch .entry)))
-        (planOut (r .status) (r .packets) (r .bytes) (sheets (now (plan .exit)) (now (room .exit)) (now (batch .exit))))
+        (sheets (now (plan .entry)) (now (room .entry)) (now (choices .entry)) (now (batch .entry)))
+        (planOut (r .status) (r .packets) (r .bytes)
+        (sheets (now (plan .exit)) (now (room .exit)) (now (choices .exit)) (now (batch .exit))))
         ⌝ }
 {
     let n = points as usize;
@@ -214,6 +157,7 @@ pub fn plan(
         wanted: wanted.len(),
         plan: plan.len(),
         room: room.len(),
+        choices: choices.len(),
         batch: batch.len(),
     };
     let asked = Lengths {
@@ -221,6 +165,7 @@ pub fn plan(
         wanted: map,
         plan: PLAN_BYTES,
         room: ROOM_BYTES,
+        choices: planning::CHOICES_SIZE,
         batch: planning::BATCH_SIZE,
     };
     let status = planning::refusal(points, lent, asked);
@@ -231,6 +176,12 @@ pub fn plan(
             bytes: 0,
         };
     }
-    measure(held, wanted, room, n);
-    write(held, wanted, plan, room, batch, n)
+    measure(
+        held,
+        wanted,
+        &mut room[..ROOM_BYTES],
+        &mut choices[..planning::CHOICES_SIZE],
+        n,
+    );
+    write(wanted, plan, &choices[..n], batch)
 }

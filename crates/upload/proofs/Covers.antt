@@ -32,7 +32,7 @@ covers-least h (skip c) = omega (arith, covers-least (omega arith) c)
 covers-least h (begin {c = k} {d = true} {ds} l c) = omega (arith, covers-least l c, best-falls k 125 (rooms ds) l)
 covers-least h (begin {c = k} {d = false} {ds} l c) = omega (arith, covers-least l c, best-opens k ds (omega arith))
 
--- What the open packet takes more: nothing if the room's number is least, else one and what it takes after that.
+-- What the open packet takes more: nothing if no packet open is as cheap, else one and what it takes after that.
 more-stops : (k x : ℕ) (r : List ℕ) → x ≤ best k (x ∷ r) → more k (x ∷ r) ≡ 0
 unfolding best more
 more-stops zero x r h = refl

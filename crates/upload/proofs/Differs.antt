@@ -1,11 +1,11 @@
 -- Where maps differ: parts of maps, and a map into which points are written. Each law goes two numbers, a point, at a time.
-use Prim.Native.Nat.{ℕ, zero, suc, _+_, _*_, _/_, _%_, _≤_, min}
+use Prim.Native.Nat.{ℕ, zero, suc, _+_, _*_, _/_, _%_, _≤_, _<_, min}
 use mathlib.Core.Path.{_≡_, refl, sym, ap, _∙_}
 use mathlib.Core.Bool.{false, not, _&&_}
 use mathlib.Core.List.{List, [], _∷_, _++_, append-assoc}
 use native.Mathlib.Omega.{arith}
 use borrow.Author.Tests.{eq-eqb}
-use lib.ListN.{length, take, drop, replicate, length-take, length-drop, take-append-drop}
+use lib.ListN.{length, take, drop, getD, replicate, length-take, length-drop, take-append-drop}
 use lib.Seq.{take-nil, drop-nil, take-length, drop-drop, paste}
 use lib.Dec.{eqb}
 use Rattle.wire.proofs.Tests.{told}
@@ -103,3 +103,17 @@ differs-write m w pts s c e f h =
     rw (take-length pts, f, append-assoc, twice)
     (ap (differs (take (2 * s) m ++ (pts ++ drop (2 * (s + c)) m))) (cut (2 * s) (2 * c) w)
     ∙ rw (differs-append _ _ _ _ wide even, differs-append pts _ _ _ same (omega arith), twice, differs-take, differs-drop))
+
+-- A point differs if one of its two numbers does.
+pub differs-at : (h w : List ℕ) (i : ℕ) → 2 * i + 1 < length h → 2 * i + 1 < length w
+    → getD (differs h w) i false ≡ not (eqb (getD h (2 * i) 0) (getD w (2 * i) 0) && eqb (getD h (2 * i + 1) 0) (getD w (2 * i + 1) 0))
+unfolding differs
+differs-at [] w i l k = absurd (omega arith)
+differs-at (x ∷ []) w i l k = absurd (omega arith)
+differs-at (x ∷ y ∷ h) [] i l k = absurd (omega arith)
+differs-at (x ∷ y ∷ h) (a ∷ []) i l k = absurd (omega arith)
+differs-at (x ∷ y ∷ h) (a ∷ b ∷ w) zero l k = refl
+differs-at (x ∷ y ∷ h) (a ∷ b ∷ w) (suc i) l k =
+    let high : 2 * suc i + 1 ≡ suc (suc (2 * i + 1)) = omega arith in
+    let low : 2 * suc i ≡ suc (suc (2 * i)) = omega arith in
+    rw (high, low) (differs-at h w i (omega arith) (omega arith))

@@ -1,21 +1,21 @@
 -- `best`, `rooms` and `more` in the words of rule 6.2: the least over the counts 1 to 126, and the smallest count that attains it.
 use Prim.Native.Nat.{ℕ, zero, suc, _+_, _*_, _≤_, _<_}
-use mathlib.Core.Path.{_≡_, refl, ap}
+use mathlib.Core.Path.{_≡_, refl, sym}
 use mathlib.Core.Bool.{Bool, true, false}
 use mathlib.Core.List.{List, [], _∷_}
 use native.Mathlib.Omega.{arith}
 use borrow.Author.Tests.{leb-true, leb-false}
-use lib.ListN.{length, drop, getD}
+use lib.ListN.{length, drop, getD, length-drop}
+use lib.Seq.{drop-cons, drop-drop}
 use lib.Dec.{leb}
-use Rattle.upload.specs.Cost.{best, least, rooms, more, roomAt, SmallestCount}
+use Rattle.upload.specs.Cost.{best, least, rooms, more, SmallestCount}
 use Rattle.upload.proofs.Best.{best-falls, best-end}
 
-pub length-rooms : (ds : List Bool) → length (rooms ds) ≡ suc (length ds)
-unfolding rooms
-length-rooms [] = refl
-length-rooms (d ∷ ds) = ap suc (length-rooms ds)
+-- The least bytes from a point on, and at the end, out of all of them. They are those at the front for the points from there on;
+-- RoomMeans says what that is.
+abbrev roomAt : List Bool → ℕ → ℕ
+roomAt ds i = getD (rooms ds) i 0
 
--- It is the number at the front of the room for the points from there on; RoomMeans says what that is.
 pub room-at : (ds : List Bool) (i : ℕ) → i ≤ length ds → roomAt ds i ≡ best 0 (rooms (drop i ds))
 unfolding best rooms
 room-at [] zero h = refl
@@ -23,7 +23,7 @@ room-at [] (suc i) h = absurd (omega arith)
 room-at (d ∷ ds) zero h = refl
 room-at (d ∷ ds) (suc i) h = room-at ds i (omega arith)
 
--- Of the counts c from 0 to k within what is left: the least of 4 × c + the room's number c further on, and the smallest count that
+-- Of the counts c from 0 to k within what is left: the least of 4 × c + the least bytes c further on, and the smallest count that
 -- attains it.
 pub record Least (ds : List Bool) (k : ℕ) : Type 0 where
   pub lower : (c : ℕ) → c ≤ k → c ≤ length ds → best k (rooms ds) ≤ 4 * c + roomAt ds c
@@ -73,25 +73,46 @@ least-count [] (suc k) = stops [] (suc k) refl refl
 least-count (d ∷ ds) zero = stops (d ∷ ds) 0 refl refl
 least-count (d ∷ ds) (suc k) = further _ d ds k refl (least-count ds k)
 
-pub room-packet : (ds : List Bool) → SmallestCount ds (suc (more 125 (rooms ds)))
-unfolding rooms
-room-packet ds =
-    record {
-      some = omega arith;
-      few = omega (arith, r .most);
-      within = omega (arith, r .within);
-      attained = omega (arith, r .attained);
-      lower = lower;
-      smallest = smallest;
-    }
-  where
-    r : Least ds 125
-    r = least-count ds 125
+-- The plan's count at a point i that differs.
+module _ (ds : List Bool) (i : ℕ) (inside : i < length ds) (d : getD ds i false ≡ true) where
+  abbrev rest : List Bool
+  rest = drop (suc i) ds
 
-    lower : (c : ℕ) → 1 ≤ c → c ≤ 126 → c ≤ length (true ∷ ds) → roomAt (true ∷ ds) 0 ≤ 6 + 4 * c + roomAt (true ∷ ds) c
-    lower zero h i j = absurd (omega arith)
-    lower (suc c) h i j = omega (arith, r .lower c (omega arith) (omega arith))
+  abbrev from : ℕ → ℕ
+  from k = best 0 (rooms (drop k ds))
 
-    smallest : (c : ℕ) → 1 ≤ c → c < suc (more 125 (rooms ds)) → roomAt (true ∷ ds) 0 < 6 + 4 * c + roomAt (true ∷ ds) c
-    smallest zero h i = absurd (omega arith)
-    smallest (suc c) h i = omega (arith, r .smallest c (omega arith))
+  here : from i ≡ 10 + best 125 (rooms rest)
+  unfolding best rooms
+  here = rw (drop-cons ds i false inside, d)
+
+  behind : (c : ℕ) → c ≤ length rest → from (i + suc c) ≡ roomAt rest c
+  behind c h =
+      let e : i + suc c ≡ suc i + c = omega arith in
+      rw (e, ← drop-drop c (suc i) ds) (sym (room-at rest c h))
+
+  left : length rest + suc i ≡ length ds
+  left = rw length-drop (omega arith)
+
+  pub smallest-count : SmallestCount (length ds) from i (suc (more 125 (rooms rest)))
+  smallest-count =
+      record {
+        some = omega arith;
+        few = omega (arith, r .most);
+        within = omega (arith, left, r .within);
+        attained = omega (arith, here, r .attained, behind (more 125 (rooms rest)) (r .within));
+        lower = lower;
+        smallest = smallest;
+      }
+    where
+      r : Least rest 125
+      r = least-count rest 125
+
+      lower : (c : ℕ) → 1 ≤ c → c ≤ 126 → i + c ≤ length ds → from i ≤ 6 + 4 * c + from (i + c)
+      lower zero h g l = absurd (omega arith)
+      lower (suc c) h g l =
+          let within : c ≤ length rest = omega (arith, left) in
+          omega (arith, here, r .lower c (omega arith) within, behind c within)
+
+      smallest : (c : ℕ) → 1 ≤ c → c < suc (more 125 (rooms rest)) → from i < 6 + 4 * c + from (i + c)
+      smallest zero h g = absurd (omega arith)
+      smallest (suc c) h g = omega (arith, here, r .smallest c (omega arith), behind c (omega (arith, r .within)))

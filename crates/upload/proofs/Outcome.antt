@@ -1,29 +1,33 @@
 -- What planning promises, from what its code leaves: which refusal it gives, and that nothing changes then; else demand 3 holds
--- of the byte count answered, the plan is the one that rule 6.2 chooses, and the room holds the least bytes. Once for lists of
+-- of the byte count answered, the plan is the one that rule 6.2 chooses, and room and choices hold what rule 6.5 says. Once for lists of
 -- numbers, and once for their bytes.
-use Prim.Native.Nat.{ℕ, _≤_, _*_}
+use Prim.Native.Nat.{ℕ, zero, suc, _+_, _≤_, _<_, _*_}
 use mathlib.Core.Path.{_≡_, refl, sym, ap, _∙_}
 use mathlib.Core.Logic.{_↔_}
 use mathlib.Core.Bool.{Bool, true, false}
-use mathlib.Core.List.{List, append-nil}
+use mathlib.Core.List.{List, [], _∷_, _++_}
 use native.Mathlib.Omega.{arith}
 use borrow.Author.Tests.{eqb-true, eq-eqb, ne-eqb, le-leb, le-ltb, eqb-false}
-use lib.ListN.{length, drop, length-map, drop-of-length-le}
-use lib.Seq.{drop-at}
+use lib.ListN.{length, take, drop, getD, length-append, length-map, length-take}
+use lib.Seq.{drop-at, take-append-le}
 use lib.Dec.{eqb}
 use Rattle.wire.specs.First.{first}
 use Rattle.wire.specs.Buffers.{over}
 use Rattle.wire.specs.Tables.{halves, words, bytes, longs, longBytes}
 use Rattle.wire.proofs.Laws.{take-over}
-use Rattle.wire.proofs.Tables.{length-pairs, length-halves, pairs-halves, halves-drop, halves-over, pairs-over}
+use Rattle.wire.proofs.Tables.{length-pairs, length-halves, pairs-halves, halves-drop, halves-over, pairs-over, bytes-longs, long-at}
 use Rattle.wire.proofs.Tests.{told, or-left}
-use Rattle.upload.specs.Plan.{Part, planOf, planNumbers, packetFor, packetsOf, joined, batchOf}
+use Rattle.upload.specs.Cost.{differs, rooms, choices}
+use Rattle.upload.specs.Plan.{Part, planOf, followed, planNumbers, packetFor, packetsOf, joined, batchOf}
 use Rattle.upload.specs.Judge.{MapOf}
-use Rattle.upload.specs.Planning.{Sheets, sheets, sheetsIn, sheetBytes, bytePlanOut, writes, plannedBy, pointsWrong, lengths, lengthsWrong, refusalsWith, planRefusals, bytePlanRefusals, PlanOut, planOut, PointsRight, ListsRight, NumbersRight, BytesRight, PlanRefusals, roomOf, planned, plannedBytes, MapsLent, Written, Fewest, PlanChosen, Planned, PlannedBytes}
-use Rattle.upload.proofs.Lists.{demand3, batch-cost, batch-bound, plan-equal}
+use Rattle.upload.specs.Planning.{Sheets, sheets, sheetsIn, sheetBytes, bytePlanOut, writes, plannedBy, pointsWrong, lengths, lengthsWrong, refusalsWith, planRefusals, bytePlanRefusals, PlanOut, planOut, PointsRight, ListsRight, NumbersRight, BytesRight, PlanRefusals, firsts, roomOf, choicesOf, planned, plannedBytes, MapsLent, Measured, Followable, Written, Fewest, PlanChosen, Planned, PlannedBytes}
+use Rattle.upload.proofs.Lists.{demand3, plan-in-order, plan-cost, plan-bound, batch-cost, batch-bound, plan-equal}
 use Rattle.upload.proofs.Choice.{plan-chosen, chosen-only}
-use Rattle.upload.proofs.RoomMeans.{room-means, room-whole}
-use Rattle.upload.proofs.Walk.{length-numbers}
+use Rattle.upload.proofs.RoomMeans.{room-means, choices-mean}
+use Rattle.upload.proofs.Differs.{differs-long}
+use Rattle.upload.proofs.Rooms.{length-firsts, firsts-all, length-choices, AllMeasured}
+use Rattle.upload.proofs.Walk.{length-numbers, followed-plan}
+use Rattle.upload.proofs.Placed.{placed}
 
 -- What is taken has no refusal.
 not-refused : {n : ℕ} {Right : Type 0} {s : Sheets} {o : PlanOut} → PointsRight n × Right → o .status ≡ 0 → PlanRefusals n Right s o
@@ -52,27 +56,32 @@ module _ (each plans places n : ℕ) (held wanted : List ℕ) (s : Sheets) where
 
   abbrev wrong : Bool
   wrong =
-      lengthsWrong (lengths (length held) (length wanted) (length (s .plan)) (length (s .room)) (length (s .batch)))
-      (lengths (each * n) (each * n) plans places 8032)
+      lengthsWrong
+      (lengths (length held) (length wanted) (length (s .plan)) (length (s .room)) (length (s .choices)) (length (s .batch)))
+      (lengths (each * n) (each * n) plans places 1984 8032)
 
   lists-tested : (wrong ≡ false) ↔ Right
   lists-tested = (
     λ e.
+        let all : 1984 ≤ length (s .choices) = search (told, e) in
         let enough : 8032 ≤ length (s .batch) = search (told, e) in
         record {
           held-long = search (told, e);
           wanted-long = search (told, e);
           plan-long = search (told, e);
           room-long = search (told, e);
+          choices-long = omega arith;
           batch-long = omega arith;
         },
     λ r.
+        let all : 1984 ≤ length (s .choices) = omega (arith, r .choices-long) in
         let enough : 8032 ≤ length (s .batch) = omega (arith, r .batch-long) in
         rw (
           eq-eqb _ _ (r .held-long),
           eq-eqb _ _ (r .wanted-long),
           eq-eqb _ _ (r .plan-long),
-          eq-eqb _ _ (r .room-long),
+          le-leb _ _ (r .room-long),
+          le-leb _ _ all,
           le-leb _ _ enough,
         ),
   )
@@ -107,9 +116,64 @@ pub maps-lent : {each plans places n : ℕ} {held wanted : List ℕ} {s : Sheets
     → MapsLent each n held wanted
 maps-lent f = record { few = f .0 .few; held-long = f .1 .held-long; wanted-long = f .1 .wanted-long }
 
--- The batch is no longer than the buffer.
-pub batch-short : (n : ℕ) (held wanted : List ℕ) → n ≤ 1984 → MapOf n held → MapOf n wanted → length (batchOf held wanted) ≤ 8032
-batch-short n held wanted few h w = omega (arith, batch-bound n held wanted h w)
+-- The choices of all points are the first of the lent list; they can be followed, and give the plan.
+choices-taken : (n : ℕ) (held wanted list : List ℕ) → n ≤ 1984 → MapOf n held → MapOf n wanted
+    → take n (over (choicesOf held wanted) list) ≡ choices (differs held wanted)
+unfolding over
+choices-taken n held wanted list few h w =
+    let cs : List ℕ = choices (differs held wanted) in
+    let all : length cs ≡ n = length-choices (differs held wanted) ∙ differs-long n held wanted (h .long) (w .long) in
+    take-append-le n (choicesOf held wanted) _ (omega (arith, length-firsts 1984 cs)) ∙ rw (← all) (firsts-all 1984 cs (omega arith))
+
+choices-follow : (n : ℕ) (held wanted list : List ℕ) → n ≤ 1984 → MapOf n held → MapOf n wanted
+    → followed 0 0 (take n (over (choicesOf held wanted) list)) ≡ planOf held wanted
+unfolding planOf
+choices-follow n held wanted list few h w =
+    rw (choices-taken n held wanted list few h w) (followed-plan 0 0 (differs held wanted))
+
+-- A part of a list that was filled, in front of what lies behind it.
+pub over-part : {cut : List ℕ} (m : ℕ) (new list : List ℕ) → length new ≡ m → cut ≡ new → cut ++ drop m list ≡ over new list
+unfolding over
+over-part m new list l e = rw (l, e)
+
+-- What writing asks of the first n choices, once they are measured.
+pub record Ready (n : ℕ) (list : List ℕ) : Type 0 where
+  pub within : n ≤ length list
+  pub all : length (take n list) ≡ n
+  pub can : Followable (take n list)
+
+pub ready : (n : ℕ) (held wanted : List ℕ) {cut : List ℕ} (list : List ℕ) → n ≤ 1984 → MapOf n held → MapOf n wanted → cut ≡ choicesOf held wanted
+    → Ready n (cut ++ drop 1984 list)
+ready n held wanted list few h w e =
+    let ds : List Bool = differs held wanted in
+    let size = length-firsts 1984 (choices ds) in
+    let taken = choices-taken n held wanted list few h w in
+    let all : length (take n (over (choicesOf held wanted) list)) ≡ n = rw taken (length-choices ds ∙ differs-long n held wanted (h .long) (w .long)) in
+    let plan = choices-follow n held wanted list few h w in
+    rw (over-part 1984 (choicesOf held wanted) list size e)
+    (record {
+      within = omega (arith, length-take n (over (choicesOf held wanted) list));
+      all = all;
+      can =
+          record {
+            few = omega arith;
+            in-order = rw (all, plan) (plan-in-order n held wanted (h .long) (w .long));
+            small = rw plan (omega (arith, plan-bound n held wanted h w));
+          };
+    })
+
+-- Measured: the least bytes are the batch's.
+pub measured : (n : ℕ) (held wanted : List ℕ) {numbers many least numbers′ many′ : ℕ} {room list : List ℕ} → MapOf n held → MapOf n wanted
+    → numbers′ ≡ numbers → many′ ≡ many → AllMeasured (differs held wanted) numbers many least room list
+    → Measured n held wanted numbers′ many′ least room list
+measured n held wanted h w e₁ e₂ t =
+    let e = t .low ∙ sym (plan-cost n held wanted (h .long) (w .long)) ∙ sym (batch-cost n held wanted (h .long) (w .long)) in
+    record {
+      bytes-are = e;
+      least = λ ps turns. omega (arith, e, demand3 n held wanted h w .fewest ps turns);
+      room-is = rw e₁ (t .room-whole);
+      choices-are = rw e₂ (t .choices-whole);
+    }
 
 -- Demand 3 of the batch's own length.
 pub fewest : (n : ℕ) (held wanted batch : List ℕ) → MapOf n held → MapOf n wanted
@@ -127,18 +191,20 @@ fewest n held wanted batch h w =
       least = d .fewest;
     }
 
--- The plan is in the lent list, and is the one that is chosen.
-pub chosen : (n : ℕ) (held wanted plan batch : List ℕ) → MapOf n held → MapOf n wanted
+-- The plan is in the lent list, is the one that is chosen, and is what following the choices gives.
+pub chosen : (n : ℕ) (held wanted plan list batch : List ℕ) → n ≤ 1984 → MapOf n held → MapOf n wanted
     → PlanChosen n held wanted (length (planOf held wanted)) (length (batchOf held wanted)) (over (planNumbers (planOf held wanted)) plan)
-    (over (batchOf held wanted) batch)
+    (over (choicesOf held wanted) list) (over (batchOf held wanted) batch)
 unfolding packetsOf batchOf
-chosen n held wanted plan batch h w =
+chosen n held wanted plan list batch few h w =
     record {
       parts = planOf held wanted;
       as-many = refl;
       numbers = rw (← length-numbers (planOf held wanted)) (sym (take-over (planNumbers (planOf held wanted)) plan));
+      placed = λ k l. placed n wanted plan batch (w .long) (plan-in-order n held wanted (h .long) (w .long)) k l;
       chosen = plan-chosen n held wanted h w;
       only = chosen-only n held wanted h w;
+      follows = choices-follow n held wanted list few h w;
       total = sym (batch-cost n held wanted (h .long) (w .long));
       bound = batch-bound n held wanted h w;
       sent = sym (take-over (batchOf held wanted) batch);
@@ -168,12 +234,15 @@ unfolding planned
 refused n held wanted s {number} e h =
     record {
       outcome = rw (← e, ne-eqb number 0 h);
-      refusals = rw e (judged 2 3968 1985 n held wanted s);
+      refusals = rw e (judged 2 3968 127 n held wanted s);
       fewest = λ z. absurd (h z);
       plan = λ z. absurd (h z);
       room = λ z. absurd (h z);
+      choices = λ z. absurd (h z);
       equal = λ z. absurd (h z);
       plan-behind = refl;
+      room-behind = refl;
+      choices-behind = refl;
       batch-behind = refl;
     }
 
@@ -183,32 +252,45 @@ unfolding plannedBytes
 refused-bytes n held wanted s {number} e h =
     record {
       outcome = rw (← e, ne-eqb number 0 h);
-      refusals = rw e (judged 4 7936 7940 n held wanted s);
+      refusals = rw e (judged 4 7936 508 n held wanted s);
       numbers = λ z. absurd (h z);
+      low-first = λ z. absurd (h z);
       plan-behind = refl;
+      room-behind = refl;
+      choices-behind = refl;
       batch-behind = refl;
     }
 
+-- What lies behind the first numbers of a list that are written over another's start.
+firsts-behind : (m : ℕ) (l list : List ℕ) → drop m (over (firsts m l) list) ≡ drop m list
+firsts-behind m l list = rw length-firsts at (behind-over (firsts m l) list)
+
 -- Planned.
-pub done : (n : ℕ) (held wanted : List ℕ) (s : Sheets) {plan room batch : List ℕ} {packets size : ℕ} → first (planRefusals n held wanted s) ≡ 0
-    → MapOf n held → MapOf n wanted → room ≡ over (roomOf n held wanted) (s .room) → Written held wanted (s .plan) (s .batch) plan batch packets size
-    → Planned n held wanted s (planOut 0 packets size (sheets plan room batch))
-unfolding planned
-done n held wanted s e h w r t =
-    let f = fit 2 3968 1985 n held wanted s e in
+pub done : (n : ℕ) (held wanted : List ℕ) (s : Sheets) {plan room list batch : List ℕ} {packets size : ℕ} → first (planRefusals n held wanted s) ≡ 0
+    → MapOf n held → MapOf n wanted → room ≡ over (roomOf held wanted) (s .room) → list ≡ over (choicesOf held wanted) (s .choices)
+    → Written wanted (followed 0 0 (take n list)) (s .plan) (s .batch) plan batch packets size
+    → Planned n held wanted s (planOut 0 packets size (sheets plan room list batch))
+unfolding planned packetsOf batchOf
+done n held wanted s {packets = packets} {size = size} e h w r c written =
+    let f = fit 2 3968 127 n held wanted s e in
+    let few = f .0 .few in
+    let t = rw (c, choices-follow n held wanted (s .choices) few h w) at written in
     record {
-      outcome = rw (e, t .packets-are, t .bytes-are, t .plan-is, t .batch-is, r);
+      outcome = rw (e, t .packets-are, t .bytes-are, t .plan-is, t .batch-is, r, c);
       refusals = not-refused f refl;
       fewest = λ z. rw (t .packets-are, t .bytes-are, t .batch-is) (fewest n held wanted (s .batch) h w);
-      plan = λ z. rw (t .packets-are, t .bytes-are, t .plan-is, t .batch-is) (chosen n held wanted (s .plan) (s .batch) h w);
-      room = λ z. rw (r, room-whole n held wanted h w (s .room) (f .0 .few) (f .1 .room-long)) (room-means n held wanted h w);
+      plan = λ z. rw (t .packets-are, t .bytes-are, t .plan-is, c, t .batch-is) (chosen n held wanted (s .plan) (s .choices) (s .batch) few h w);
+      room = λ z. rw r (room-means n held wanted h w (s .room));
+      choices = λ z. rw c (choices-mean n held wanted h w few (s .choices));
       equal = λ z same. rw (t .packets-are, t .bytes-are) (equal-none n held wanted h same);
       plan-behind = rw (t .packets-are, t .plan-is, ← length-numbers (planOf held wanted)) (behind-over (planNumbers (planOf held wanted)) (s .plan));
+      room-behind = rw r (firsts-behind 127 (rooms (differs held wanted)) (s .room));
+      choices-behind = rw c (firsts-behind 1984 (choices (differs held wanted)) (s .choices));
       batch-behind = rw (t .bytes-are, t .batch-is) (behind-over (batchOf held wanted) (s .batch));
     }
 
 -- The numbers that bytes of the right lengths hold are of the right lengths.
-pub fit-words : {n : ℕ} {held wanted : List ℕ} {s : Sheets} → PointsRight n × BytesRight n held wanted s
+fit-words : {n : ℕ} {held wanted : List ℕ} {s : Sheets} → PointsRight n × BytesRight n held wanted s
     → PointsRight n × NumbersRight n (words held) (words wanted) (sheetsIn s)
 fit-words (points, f) = (
   points,
@@ -217,47 +299,70 @@ fit-words (points, f) = (
     wanted-long = rw length-pairs (omega (arith, f .wanted-long));
     plan-long = rw length-pairs (omega (arith, f .plan-long));
     room-long = rw (length-pairs, length-pairs) (omega (arith, f .room-long));
+    choices-long = f .choices-long;
     batch-long = f .batch-long;
   },
 )
+
+-- The bytes of the room's numbers.
+room-bytes : (l : List ℕ) → length (longBytes (firsts 127 l)) ≡ 508
+room-bytes l =
+    omega (arith, length-halves 256 (halves 65536 (firsts 127 l)), length-halves 65536 (firsts 127 l), length-firsts 127 l)
 
 -- On bytes: a list whose numbers are written over the start of others has their bytes written over the start of theirs.
 over-bytes : {list list₀ : List ℕ} (new : List ℕ) → bytes (words list) ≡ list → bytes (words list₀) ≡ list₀ → words list ≡ over new (words list₀)
     → list ≡ over (bytes new) list₀
 over-bytes {list} {list₀} new p q e = sym p ∙ ap bytes e ∙ halves-over 256 new (words list₀) ∙ rw q
 
--- The numbers that the bytes hold are planned as above, and the bytes are those of the numbers.
-pub done-bytes : (n : ℕ) (held wanted : List ℕ) (s : Sheets) {plan room batch : List ℕ} {packets size : ℕ}
-    → first (bytePlanRefusals n held wanted s) ≡ 0 → MapOf n (words held) → MapOf n (words wanted) → bytes (words plan) ≡ plan
-    → bytes (words (s .plan)) ≡ s .plan → room ≡ over (longBytes (roomOf n (words held) (words wanted))) (s .room)
-    → Written (words held) (words wanted) (words (s .plan)) (s .batch) (words plan) batch packets size
-    → PlannedBytes n held wanted s (planOut 0 packets size (sheets plan room batch))
-unfolding plannedBytes
-done-bytes n held wanted s {plan} {room} {batch} {packets} e h w p p₀ r t =
-    let f = fit 4 7936 7940 n held wanted s e in
-    let room-numbers : List ℕ = roomOf n (words held) (words wanted) in
-    let longs-room : longs room ≡ over room-numbers (longs (s .room)) =
-    rw (r, pairs-over 256 (halves 65536 room-numbers) (s .room), pairs-over 65536 room-numbers (words (s .room))) in
-    let numbers =
-    done n (words held) (words wanted) (sheetsIn s) (taken 2 3968 1985 n (words held) (words wanted) (sheetsIn s) (fit-words f)) h w longs-room t in
-    record {
-      outcome = rw (e, t .packets-are, t .bytes-are, over-bytes (planNumbers (planOf (words held) (words wanted))) p p₀ (t .plan-is), r, t .batch-is);
-      refusals = not-refused f refl;
-      numbers = λ z. numbers;
-      plan-behind = bytes-behind packets p p₀ (numbers .plan-behind);
-      batch-behind = numbers .batch-behind;
-    }
+-- A part of a room's bytes that was filled, in front of what lies behind it.
+below-front : (a b : List ℕ) → ((k : ℕ) → getD (a ++ b) k 0 < 256) → (k : ℕ) → getD a k 0 < 256
+below-front [] b h k = omega arith
+below-front (x ∷ a) b h zero = h 0
+below-front (x ∷ a) b h (suc k) = below-front a b (λ j. h (suc j)) k
 
--- A room of bytes is as long as what is written over it.
-pub whole-bytes : (n : ℕ) (held wanted : List ℕ) → MapOf n held → MapOf n wanted → {room : List ℕ} (room₀ : List ℕ) → longBytes (longs room) ≡ room
-    → longs room ≡ roomOf n held wanted → n ≤ 1984 → length room₀ ≡ 7940 → room ≡ over (longBytes (roomOf n held wanted)) room₀
+pub room-over : (cut room l : List ℕ) → length cut ≡ 508 → ((k : ℕ) → getD (cut ++ drop 508 room) k 0 < 256) → longs cut ≡ firsts 127 l
+    → cut ++ drop 508 room ≡ over (longBytes (firsts 127 l)) room
+room-over cut room l long small e =
+    over-part 508 (longBytes (firsts 127 l)) room (room-bytes l) (sym (bytes-longs cut (omega arith) (below-front cut (drop 508 room) small)) ∙ ap longBytes e)
+
+-- Rule 1.3: a number of the room, byte by byte.
+low-bytes-first : (room : List ℕ) (k : ℕ) → 4 * k + 3 < length room
+    → getD (longs room) k 0
+    ≡ getD room (4 * k) 0 + 256 * getD room (4 * k + 1) 0 + 65536 * getD room (4 * k + 2) 0 + 16777216 * getD room (4 * k + 3) 0
+low-bytes-first room k h =
+    let third : 4 * k + 2 + 1 ≡ 4 * k + 3 = omega arith in
+    omega (arith, rw third at (long-at room k h))
+
+room-long : (l room : List ℕ) → 508 ≤ length (over (longBytes (firsts 127 l)) room)
 unfolding over
-whole-bytes n held wanted h w {room} room₀ b e few long =
-    let numbers : List ℕ = roomOf n held wanted in
-    let size = room-means n held wanted h w .long few in
-    sym b ∙ ap longBytes e
-    ∙ sym (rw (drop-of-length-le room₀ {i = length (longBytes numbers)} (omega (arith, length-halves 256 (halves 65536 numbers), length-halves 65536 numbers)))
-    (append-nil (longBytes numbers)))
+room-long l room = rw length-append (omega (arith, room-bytes l))
+
+-- The numbers that the bytes hold are planned as above, and the bytes are those of the numbers.
+pub done-bytes : (n : ℕ) (held wanted : List ℕ) (s : Sheets) {plan room list batch : List ℕ} {packets size : ℕ}
+    → first (bytePlanRefusals n held wanted s) ≡ 0 → MapOf n (words held) → MapOf n (words wanted) → bytes (words plan) ≡ plan
+    → bytes (words (s .plan)) ≡ s .plan → room ≡ over (longBytes (roomOf (words held) (words wanted))) (s .room)
+    → list ≡ over (choicesOf (words held) (words wanted)) (s .choices)
+    → Written (words wanted) (followed 0 0 (take n list)) (words (s .plan)) (s .batch) (words plan) batch packets size
+    → PlannedBytes n held wanted s (planOut 0 packets size (sheets plan room list batch))
+unfolding plannedBytes packetsOf batchOf
+done-bytes n held wanted s {plan} {room} {list} {batch} {packets} {size} e h w p p₀ r c t =
+    let f = fit 4 7936 508 n held wanted s e in
+    let numbers : List ℕ = roomOf (words held) (words wanted) in
+    let longs-room : longs room ≡ over numbers (longs (s .room)) =
+    rw (r, pairs-over 256 (halves 65536 numbers) (s .room), pairs-over 65536 numbers (words (s .room))) in
+    let q =
+    done n (words held) (words wanted) (sheetsIn s) (taken 2 3968 127 n (words held) (words wanted) (sheetsIn s) (fit-words f)) h w longs-room c t in
+    let v = rw (c, choices-follow n (words held) (words wanted) (s .choices) (f .0 .few) h w) at t in
+    record {
+      outcome = rw (e, v .packets-are, v .bytes-are, over-bytes (planNumbers (planOf (words held) (words wanted))) p p₀ (v .plan-is), r, c, v .batch-is);
+      refusals = not-refused f refl;
+      numbers = λ z. q;
+      low-first = λ z k l. low-bytes-first room k (omega (arith, rw (← r) at (room-long (rooms (differs (words held) (words wanted))) (s .room))));
+      plan-behind = bytes-behind packets p p₀ (q .plan-behind);
+      room-behind = rw r (rw room-bytes at (behind-over (longBytes numbers) (s .room)));
+      choices-behind = q .choices-behind;
+      batch-behind = q .batch-behind;
+    }
 
 -- Numbers lent as their bytes: planning does there what it does on the numbers.
 fit-bytes : {n : ℕ} {held wanted : List ℕ} {s : Sheets} → PointsRight n × NumbersRight n held wanted s
@@ -269,6 +374,7 @@ fit-bytes (points, f) = (
     wanted-long = rw length-halves (omega (arith, f .wanted-long));
     plan-long = rw length-halves (omega (arith, f .plan-long));
     room-long = rw (length-halves, length-halves) (omega (arith, f .room-long));
+    choices-long = f .choices-long;
     batch-long = f .batch-long;
   },
 )
@@ -282,14 +388,14 @@ pub plan-bytes : (n : ℕ) (held wanted : List ℕ) (s : Sheets) → planned n h
 unfolding planned plannedBytes
 plan-bytes n held wanted s e =
     let number : ℕ = first (planRefusals n held wanted s) in
-    let silent : number ≡ 0 = sym (status-by (planOf held wanted) (writes n held wanted) s number (eqb number 0) refl) ∙ e in
-    let none = taken 4 7936 7940 n (bytes held) (bytes wanted) (sheetBytes s) (fit-bytes (fit 2 3968 1985 n held wanted s silent)) in
+    let silent : number ≡ 0 = sym (status-by (planOf held wanted) (writes held wanted) s number (eqb number 0) refl) ∙ e in
+    let none = taken 4 7936 508 n (bytes held) (bytes wanted) (sheetBytes s) (fit-bytes (fit 2 3968 127 n held wanted s silent)) in
     rw (
       silent,
       none,
       pairs-halves 256 held,
       pairs-halves 256 wanted,
       halves-over 256 (planNumbers (planOf held wanted)) (s .plan),
-      halves-over 65536 (roomOf n held wanted) (s .room),
-      halves-over 256 (halves 65536 (roomOf n held wanted)) (halves 65536 (s .room)),
+      halves-over 65536 (roomOf held wanted) (s .room),
+      halves-over 256 (halves 65536 (roomOf held wanted)) (halves 65536 (s .room)),
     )

@@ -1,20 +1,23 @@
--- Rule 6.5, what the working room holds: at each point's index the bytes of the batch for it and the points behind it, which rule
--- 7.3 says are the fewest.
-use Prim.Native.Nat.{ℕ, zero, suc, _+_, _-_, _*_, _≤_}
+-- Rule 6.5, what room and choices hold: in the room at a point's index the bytes of the batch for it and the points behind it, which
+-- rule 7.3 says are the fewest; in choices at a point that differs the smallest count that attains them.
+use Prim.Native.Nat.{ℕ, _+_, _-_, _*_, _≤_, _<_}
 use mathlib.Core.Path.{_≡_, refl, sym, ap, _∙_}
-use mathlib.Core.Bool.{Bool}
-use mathlib.Core.List.{List, [], _∷_, _++_, append-nil}
+use mathlib.Core.Bool.{Bool, true, false, not, _&&_}
+use mathlib.Core.List.{List}
 use native.Mathlib.Omega.{arith}
-use lib.ListN.{length, drop, getD, replicate, length-drop, drop-of-length-le, List·getD-append}
+use borrow.Author.Tests.{eqb-true, eq-eqb}
+use lib.ListN.{length, drop, getD, length-drop, List·getD-append}
 use lib.Seq.{getD-drop}
+use lib.Dec.{eqb}
 use Rattle.wire.specs.Buffers.{over}
-use Rattle.upload.specs.Cost.{differs, best, rooms}
+use Rattle.upload.specs.Sizes.{roomSize, choicesSize}
+use Rattle.upload.specs.Cost.{differs, best, rooms, choices, SmallestCount}
 use Rattle.upload.specs.Plan.{packetsOf, batchOf}
 use Rattle.upload.specs.Judge.{MapOf}
-use Rattle.upload.specs.Planning.{roomOf, LeastFrom, RoomMeans}
-use Rattle.upload.proofs.Least.{length-rooms, room-at}
-use Rattle.upload.proofs.Rooms.{zeros, whole-long}
-use Rattle.upload.proofs.Differs.{differs-long, differs-drop}
+use Rattle.upload.specs.Planning.{firsts, roomOf, choicesOf, bytesFrom, LeastFrom, RoomMeans, SamePoint, ChoicesMean}
+use Rattle.upload.proofs.Least.{room-at, smallest-count}
+use Rattle.upload.proofs.Rooms.{length-firsts, firsts-at, firsts-none, room-end, choice-at, choice-end}
+use Rattle.upload.proofs.Differs.{differs-long, differs-drop, differs-at}
 use Rattle.upload.proofs.Lists.{demand3, plan-cost, batch-cost}
 
 -- The points of a map from i on.
@@ -25,52 +28,87 @@ map-from n map i h m =
       words = λ k. rw getD-drop (m .words (2 * i + k));
     }
 
--- At the end of the points, and behind it, the room is 0.
-room-end : (ds : List Bool) (m i : ℕ) → length ds ≤ i → _≡_ {A = ℕ} (getD (rooms ds ++ replicate m 0) i 0) 0
-unfolding rooms
-room-end [] m zero h = refl
-room-end [] m (suc i) h = zeros m i
-room-end (d ∷ ds) m zero h = absurd (omega arith)
-room-end (d ∷ ds) m (suc i) h = room-end ds m i (omega arith)
+-- The same count, where the least bytes are counted another way.
+smallest-by : {n i count : ℕ} (from from′ : ℕ → ℕ) → i ≤ n → ((k : ℕ) → k ≤ n → from k ≡ from′ k) → SmallestCount n from i count
+    → SmallestCount n from′ i count
+smallest-by {i = i} {count = count} from from′ h e r =
+    record {
+      some = r .some;
+      few = r .few;
+      within = r .within;
+      attained = omega (arith, r .attained, e i h, e (i + count) (r .within));
+      lower = λ c g k l. omega (arith, r .lower c g k l, e i h, e (i + c) l);
+      smallest = λ c g k. omega (arith, r .smallest c g k, e i h, e (i + c) (omega (arith, r .within)));
+    }
+
+-- What is written over a list's start stands there.
+written-at : (m : ℕ) (l list : List ℕ) (k : ℕ) → k < m → getD (over (firsts m l) list) k 0 ≡ getD (firsts m l) k 0
+unfolding over
+written-at m l list k h = List·getD-append (firsts m l) _ 0 k (omega (arith, length-firsts m l))
 
 module _ (n : ℕ) (held wanted : List ℕ) (h : MapOf n held) (w : MapOf n wanted) where
-  all : length (differs held wanted) ≡ n
+  abbrev ds : List Bool
+  ds = differs held wanted
+
+  all : length ds ≡ n
   all = differs-long n held wanted (h .long) (w .long)
 
-  room-batch : (i : ℕ) → i ≤ n → getD (roomOf n held wanted) i 0 ≡ length (batchOf (drop (2 * i) held) (drop (2 * i) wanted))
-  room-batch i l =
-      let ds : List Bool = differs held wanted in
+  low-bytes : (i : ℕ) → i ≤ n → best 0 (rooms (drop i ds)) ≡ bytesFrom held wanted i
+  low-bytes i l =
       let held′ = map-from n held i l h in
       let wanted′ = map-from n wanted i l w in
-      List·getD-append (rooms ds) (replicate (1984 - n) 0) 0 i (omega (arith, all, length-rooms ds))
-      ∙ room-at ds i (omega (arith, all))
-      ∙ ap (λ (l : List Bool). best 0 (rooms l)) (sym (differs-drop i held wanted))
+      ap (λ (l : List Bool). best 0 (rooms l)) (sym (differs-drop i held wanted))
       ∙ sym (plan-cost (n - i) (drop (2 * i) held) (drop (2 * i) wanted) (held′ .long) (wanted′ .long))
       ∙ sym (batch-cost (n - i) (drop (2 * i) held) (drop (2 * i) wanted) (held′ .long) (wanted′ .long))
 
-  least-from : (i : ℕ) → i ≤ n → LeastFrom n held wanted i (getD (roomOf n held wanted) i 0)
+  least-from : (i : ℕ) → i ≤ n → LeastFrom n held wanted i (bytesFrom held wanted i)
+  unfolding batchOf
   least-from i l =
-      let e = room-batch i l in
       let d = demand3 (n - i) (drop (2 * i) held) (drop (2 * i) wanted) (map-from n held i l h) (map-from n wanted i l w) in
       record {
-        batch = e;
+        batch = refl;
         packets = packetsOf (drop (2 * i) held) (drop (2 * i) wanted);
+        back-to-back = refl;
+        accepted = d .accepted;
         turns = d .turns;
-        total = sym (e ∙ d .bytes);
-        least = λ ps t. omega (arith, e, d .fewest ps t);
+        total = sym (d .bytes);
+        least = d .fewest;
       }
 
-  pub room-means : RoomMeans n held wanted (roomOf n held wanted)
-  room-means =
+  pub room-means : (room : List ℕ) → RoomMeans n held wanted (over (roomOf held wanted) room)
+  room-means room =
       record {
-        long = λ few. whole-long n few (differs held wanted) all (roomOf n held wanted) refl;
-        below = least-from;
-        beyond = λ i l k. room-end (differs held wanted) (1984 - n) i (omega (arith, all));
+        below = λ k l g.
+            rw (written-at roomSize (rooms ds) room k g ∙ firsts-at roomSize (rooms ds) k g ∙ room-at ds k (omega (arith, all)) ∙ low-bytes k (omega arith))
+            (least-from k (omega arith));
+        beyond = λ k l g. written-at roomSize (rooms ds) room k g ∙ firsts-none roomSize (rooms ds) k (room-end ds k (omega (arith, all)));
       }
 
-  -- It is as long as the lent room, so nothing of that is left.
-  pub room-whole : (room : List ℕ) → n ≤ 1984 → length room ≡ 1985 → over (roomOf n held wanted) room ≡ roomOf n held wanted
-  unfolding over
-  room-whole room few long =
-      rw (drop-of-length-le room {i = length (roomOf n held wanted)} (omega (arith, whole-long n few (differs held wanted) all (roomOf n held wanted) refl)))
-      (append-nil (roomOf n held wanted))
+  -- A point that differs, and one that does not.
+  point-differs : (i : ℕ) → i < n → (SamePoint held wanted i → ⊥) → getD ds i false ≡ true
+  point-differs i l other = differs-at held wanted i (omega (arith, h .long)) (omega (arith, w .long)) ∙ go _ _ refl refl
+    where
+      go : (x y : Bool) → eqb (getD held (2 * i) 0) (getD wanted (2 * i) 0) ≡ x → eqb (getD held (2 * i + 1) 0) (getD wanted (2 * i + 1) 0) ≡ y
+          → not (eqb (getD held (2 * i) 0) (getD wanted (2 * i) 0) && eqb (getD held (2 * i + 1) 0) (getD wanted (2 * i + 1) 0)) ≡ true
+      go true true e f = absurd (other (eqb-true _ _ e, eqb-true _ _ f))
+      go true false e f = rw (e, f)
+      go false y e f = rw e
+
+  point-same : (i : ℕ) → i < n → SamePoint held wanted i → getD ds i false ≡ false
+  point-same i l same =
+      differs-at held wanted i (omega (arith, h .long)) (omega (arith, w .long)) ∙ rw (eq-eqb _ _ (same .0), eq-eqb _ _ (same .1))
+
+  pub choices-mean : n ≤ 1984 → (list : List ℕ) → ChoicesMean n held wanted (over (choicesOf held wanted) list)
+  choices-mean few list =
+      record {
+        least = least-from;
+        differing = λ i l other.
+            let d = point-differs i l other in
+            rw (at i (omega arith), choice-at ds i (omega (arith, all)), d)
+            (smallest-by (λ (k : ℕ). best 0 (rooms (drop k ds))) (bytesFrom held wanted) (omega arith) low-bytes (rw all at (smallest-count ds i (omega (arith, all)) d)));
+        same = λ i l s. at i (omega arith) ∙ choice-at ds i (omega (arith, all)) ∙ rw (point-same i l s);
+        beyond = λ i l g. at i g ∙ choice-end ds i (omega (arith, all));
+      }
+    where
+      at : (i : ℕ) → i < 1984 → getD (over (choicesOf held wanted) list) i 0 ≡ getD (choices ds) i 0
+      at i g = written-at choicesSize (choices ds) list i g ∙ firsts-at choicesSize (choices ds) i g

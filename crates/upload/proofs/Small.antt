@@ -24,7 +24,7 @@ answer-small {n} {held} {wanted} {s} {o} t = go (eqb (first (bytePlanRefusals n 
     go : (b : Bool) → eqb (first (bytePlanRefusals n held wanted s)) 0 ≡ b → (o .packets ≤ 8032) × (o .bytes ≤ 8032)
     go false e = rw (t .outcome, e) (omega arith, omega arith)
     go true e =
-        let right = fit 4 7936 7940 n held wanted s (eqb-true _ _ e) in
+        let right = fit 4 7936 508 n held wanted s (eqb-true _ _ e) in
         let none = t .refusals .exactly .1 right in
         let p = t .numbers none .plan none in
         omega (arith, few-parts (p .parts))

@@ -1,9 +1,8 @@
 -- Rule 6.2: the least bytes for what is left of a map. A packet of count points costs 6 + 4 × count bytes, count 1-126 (rule 6.1).
 use Prim.Native.Nat.{ℕ, zero, suc, _+_, _*_, _≤_, _<_, min}
 use mathlib.Core.Path.{_≡_}
-use mathlib.Core.Bool.{Bool, true, not, cond, _&&_}
+use mathlib.Core.Bool.{Bool, not, cond, _&&_}
 use mathlib.Core.List.{List, [], _∷_}
-use lib.ListN.{length, getD}
 use lib.Dec.{eqb, leb}
 use Rattle.upload.specs.Sizes.{mostMore}
 
@@ -27,11 +26,12 @@ best (suc k) (x ∷ r) = min x (4 + best k r)
 abbrev pub least : Bool → List ℕ → ℕ
 least d r = cond d (10 + best mostMore r) (best 0 r)
 
--- A room with one point more in front. The room is an argument here, so that `rooms` names it once.
+-- The numbers with one point more in front. They are an argument here, so that `rooms` names them once.
 abbrev pub push : Bool → List ℕ → List ℕ
 push d r = least d r ∷ r
 
--- Rule 6.5: at each point's index, the bytes that it and those behind it need at least: N + 1 numbers, the last one 0.
+-- Rule 6.2: at each point's index, the bytes that it and those behind it need at least, and 0 for the end. The lent room has the first
+-- of them (Planning, `roomOf`).
 unfoldable pub rooms : List Bool → List ℕ
 rooms [] = 0 ∷ []
 rooms (d ∷ ds) = push d (rooms ds)
@@ -42,19 +42,25 @@ more zero r = 0
 more (suc k) [] = 0
 more (suc k) (x ∷ r) = cond (leb x (4 + best k r)) 0 (suc (more k r))
 
+-- Rule 6.5: the count of the packet that the plan would begin at a point, r being the numbers behind it; 0 where the point does not
+-- differ.
+abbrev pub choice : Bool → List ℕ → ℕ
+choice d r = cond d (suc (more mostMore r)) 0
+
+-- Rule 6.5: at each point's index its choice.
+unfoldable pub choices : List Bool → List ℕ
+choices [] = []
+choices (d ∷ ds) = choice d (rooms ds) ∷ choices ds
+
 -- ---- The same in the words of the rules.
 
--- The room's number at a point, and at the end.
-abbrev pub roomAt : List Bool → ℕ → ℕ
-roomAt ds i = getD (rooms ds) i 0
-
--- Rule 6.2: at a point that differs, ds being the points behind it: a packet of count points costs 6 + 4 × count and what is left
--- behind it. Of the counts from 1 to 126 within the map the room's number is the least, and this count is the smallest that
--- attains it.
-pub record SmallestCount (ds : List Bool) (count : ℕ) : Type 0 where
+-- Rules 6.2 and 6.5: of n points, where `from` gives the least bytes for those from a point on: a packet that begins at point i
+-- costs 6 + 4 × count and what is left behind it. No count from 1 to 126 within the map costs less than this one, and every smaller
+-- one costs more.
+pub record SmallestCount (n : ℕ) (from : ℕ → ℕ) (i count : ℕ) : Type 0 where
   pub some : 1 ≤ count
   pub few : count ≤ 126
-  pub within : count ≤ length (true ∷ ds)
-  pub attained : roomAt (true ∷ ds) 0 ≡ 6 + 4 * count + roomAt (true ∷ ds) count
-  pub lower : (c : ℕ) → 1 ≤ c → c ≤ 126 → c ≤ length (true ∷ ds) → roomAt (true ∷ ds) 0 ≤ 6 + 4 * c + roomAt (true ∷ ds) c
-  pub smallest : (c : ℕ) → 1 ≤ c → c < count → roomAt (true ∷ ds) 0 < 6 + 4 * c + roomAt (true ∷ ds) c
+  pub within : i + count ≤ n
+  pub attained : from i ≡ 6 + 4 * count + from (i + count)
+  pub lower : (c : ℕ) → 1 ≤ c → c ≤ 126 → i + c ≤ n → from i ≤ 6 + 4 * c + from (i + c)
+  pub smallest : (c : ℕ) → 1 ≤ c → c < count → from i < 6 + 4 * c + from (i + c)

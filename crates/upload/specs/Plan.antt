@@ -28,6 +28,14 @@ planFrom i zero (true ∷ ds) =
 unfoldable pub planOf : List ℕ → List ℕ → List Part
 planOf held wanted = planFrom 0 0 (differs held wanted)
 
+-- Rule 6.5: what following choices gives, from point i on, with k points more in the open packet: one begins where the choice is not
+-- 0, with so many points.
+unfoldable pub followed : ℕ → ℕ → List ℕ → List Part
+followed i k [] = []
+followed i (suc k) (c ∷ cs) = followed (suc i) k cs
+followed i zero (zero ∷ cs) = followed (suc i) zero cs
+followed i zero (suc c ∷ cs) = record { start = i; count = suc c } ∷ followed (suc i) c cs
+
 -- Rule 6.1: 6 bytes for each packet and 4 for each of its points.
 unfoldable pub cost : List Part → ℕ
 cost [] = 0

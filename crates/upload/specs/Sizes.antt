@@ -1,5 +1,6 @@
 -- Rules 6.1, 6.2 and 6.4: the numbers of planning, by name. What is right is said with the numbers themselves (Planning:
--- `PointsRight`, `NumbersRight`, `BytesRight`; Parts: `Fits`), so that none of these is changed in definition and code alike unseen.
+-- `PointsRight`, `NumbersRight`, `BytesRight`, `RoomMeans`, `ChoicesMean`; Cost: `SmallestCount`; Parts: `Fits`), so that none of
+-- these is changed in definition and code alike unseen.
 use Prim.Native.Nat.{ℕ}
 
 -- Rule 6.1: the points of a full map, 62 × 32.
@@ -17,9 +18,13 @@ mostMore = 125
 abbrev pub planSize : ℕ
 planSize = 3968
 
--- Rule 6.4: the working room's 32-bit numbers, one for each point of a full map and one for its end.
+-- Rule 6.4: the working room's 32-bit numbers, one for each of the first points.
 abbrev pub roomSize : ℕ
-roomSize = 1985
+roomSize = 127
+
+-- Rule 6.4: the bytes for choices, one for each point of a full map.
+abbrev pub choicesSize : ℕ
+choicesSize = 1984
 
 -- Rules 6.2 and 6.4: the bytes that the batch of a full map has at most.
 abbrev pub batchSize : ℕ

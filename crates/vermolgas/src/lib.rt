@@ -93,12 +93,13 @@ pub extern "C" fn vermolgas_plan(
     wanted: &[u8],
     plan: &mut [u8],
     room: &mut [u8],
+    choices: &mut [u8],
     batch: &mut [u8],
 ) -> u64
     ensures { λ r. ⌜ PackedPlan points (now (held .entry)) (now (wanted .entry))
-        (sheets (now (plan .entry)) (now (room .entry)) (now (batch .entry)))
-        r (sheets (now (plan .exit)) (now (room .exit)) (now (batch .exit))) ⌝ }
+        (sheets (now (plan .entry)) (now (room .entry)) (now (choices .entry)) (now (batch .entry)))
+        r (sheets (now (plan .exit)) (now (room .exit)) (now (choices .exit)) (now (batch .exit))) ⌝ }
 {
-    let a = planner8::plan(points, held, wanted, plan, room, batch);
+    let a = planner8::plan(points, held, wanted, plan, room, choices, batch);
     a.status as u64 + 256 * a.packets as u64 + 4294967296 * a.bytes as u64
 }

@@ -146,9 +146,6 @@ halves-below b (n ∷ l) h (suc zero) = div-lt-iff-lt-mul (base-pos b (h 0)) .1 
 halves-below b (n ∷ l) h (suc (suc k)) = halves-below b l (λ j. h (suc j)) k
 
 -- 32-bit numbers: two steps of the same.
-pub longs-bytes : (l : List ℕ) → longs (longBytes l) ≡ l
-longs-bytes l = rw (pairs-halves 256, pairs-halves 65536)
-
 pub bytes-longs : (s : List ℕ) → length s % 4 ≡ 0 → ((k : ℕ) → getD s k 0 < 256) → longBytes (longs s) ≡ s
 bytes-longs s e h =
     rw (

@@ -12,31 +12,39 @@ pub fn patterns(points: usize) -> impl Iterator<Item = u32> {
 
 /// All lists that rise and don't overlap, their packets starting at any point: the plan is the one
 /// of least bytes, then with the least first count, the least second and so on, and the only one.
-/// The room has the least bytes from each point on.
+/// The room has the least bytes from each point on, and the choices the first count of such a list.
 pub fn every_list(upload: &mut Upload) {
     for points in 1..=9 {
         for pattern in patterns(points) {
             let (held, wanted) = maps(upload, points, Kind::Any, |place| pattern >> place & 1 == 1);
             let outcome = upload.plan(&held, &wanted);
             for from in (0..points).rev() {
-                let mut search = Search { pattern, points, list: vec![], best: None, same: 0, lists: 0 };
-                search.extend(from, 0);
-                upload.counts.lists += search.lists;
-                let (bytes, counts, list) = search.best.expect("one packet for each point is such a list");
-                let room = outcome.room.get(from).copied();
-                upload.expect(room == Some(bytes as u32), || {
-                    format!("room has {room:?} at {from}, not {bytes}: {points} points, {pattern:b}")
-                });
-                let same = search.same;
-                upload.expect(same == 1, || format!("{same} lists of counts {counts:?}: {pattern:b}"));
-                if from == 0 {
-                    let found = (outcome.bytes, &outcome.plan);
-                    upload.expect(found == (bytes, &list), || {
-                        format!("{found:?}, not {bytes} bytes and {list:?}: {points} points, {pattern:b}")
-                    });
-                }
+                every_list_from(upload, points, pattern, from, &outcome);
             }
         }
+    }
+}
+
+/// The lists for the points from one of them on, against what was planned for all of them.
+fn every_list_from(upload: &mut Upload, points: usize, pattern: u32, from: usize, outcome: &Outcome) {
+    let mut search = Search { pattern, points, list: vec![], best: None, same: 0, lists: 0 };
+    search.extend(from, 0);
+    upload.counts.lists += search.lists;
+    let (bytes, counts, list) = search.best.expect("one packet for each point is such a list");
+    let input = || format!("{points} points, {pattern:b}");
+    let room = outcome.room.get(from).copied();
+    upload
+        .expect(room == Some(bytes as u32), || format!("room {room:?} at {from}, not {bytes}: {}", input()));
+    let due = if pattern >> from & 1 == 1 { counts[0] } else { 0 };
+    let choice = outcome.choices.get(from).copied().map(usize::from);
+    upload.expect(choice == Some(due), || format!("choice {choice:?} at {from}, not {due}: {}", input()));
+    let same = search.same;
+    upload.expect(same == 1, || format!("{same} lists of counts {counts:?}: {}", input()));
+    if from == 0 {
+        let found = (outcome.bytes, &outcome.plan);
+        upload.expect(found == (bytes, &list), || {
+            format!("{found:?}, not {bytes} bytes and {list:?}: {}", input())
+        });
     }
 }
 

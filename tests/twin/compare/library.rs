@@ -50,6 +50,8 @@ extern "C" {
         plan_length: usize,
         room: *mut u8,
         room_length: usize,
+        choices: *mut u8,
+        choices_length: usize,
         batch: *mut u8,
         batch_length: usize,
     ) -> u64;
@@ -117,11 +119,12 @@ impl Library {
     #[rustfmt::skip]
     pub fn plan(self, points: u32, lent: planner::Lent) -> u64 {
         let [held, wanted] = [lent.held, lent.wanted].map(|slice| (self.pointer(slice), slice.len()));
-        let slices = [lent.plan, lent.room, lent.batch];
-        let [plan, room, batch] = slices.map(|slice| (self.pointer_mut(slice), slice.len()));
+        let slices = [lent.plan, lent.room, lent.choices, lent.batch];
+        let [plan, room, choices, batch] = slices.map(|slice| (self.pointer_mut(slice), slice.len()));
         unsafe {
             vermolgas_plan(
-                points, held.0, held.1, wanted.0, wanted.1, plan.0, plan.1, room.0, room.1, batch.0, batch.1,
+                points, held.0, held.1, wanted.0, wanted.1, plan.0, plan.1, room.0, room.1, choices.0, choices.1,
+                batch.0, batch.1,
             )
         }
     }

@@ -1,7 +1,8 @@
-//! Compares `vermolgas_plan` with the twin: the answer, plan, room and batch in full, and the bytes
-//! around each. Each batch is read by `vermolgas_read` and, where a shape has so many points, sent
-//! through `vermolgas_packet`; it has to give the wanted map. The seed may be given as the one
-//! argument; it and all counts are printed, and counts that fall short are failures.
+//! Compares `vermolgas_plan` with the twin: the answer, plan, room, choices and batch in full, and the
+//! bytes around each. Room and choices are held against what they mean, too. Each batch is read by
+//! `vermolgas_read` and, where a shape has so many points, sent through `vermolgas_packet`; it has to
+//! give the wanted map. The seed may be given as the one argument; it and all counts are printed, and
+//! counts that fall short are failures.
 
 mod covers;
 #[allow(dead_code, reason = "each program calls some of the entries")]
@@ -10,6 +11,7 @@ mod library;
 mod random;
 #[allow(dead_code, reason = "each program shows some of its inputs in hex")]
 mod report;
+mod rooms;
 mod upload;
 mod uploads;
 
@@ -28,6 +30,8 @@ fn main() -> ExitCode {
     upload.group("every pattern of up to 12 points", uploads::every_pattern);
     upload.group("every cover of up to 9 points", covers::every_list);
     upload.group("overlaps, repeats and any order, up to 12 points", covers::any_order);
+    upload.group("every pattern of up to 9 points, by its tails", rooms::small_tails);
+    upload.group("larger maps by their tails", rooms::tails);
     upload.group("every number of points", uploads::every_number);
     upload.group("every density", uploads::densities);
     upload.group("runs of 120 to 130", uploads::runs);
@@ -36,6 +40,8 @@ fn main() -> ExitCode {
     upload.group("every shape", uploads::every_shape);
     upload.group("number of points refused", uploads::numbers_refused);
     upload.group("lent lengths", uploads::lengths);
+    upload.group("every short room, all short choices", uploads::short_rooms);
+    upload.group("longer rooms, choices and batches", uploads::longer_rooms);
     upload.group("NULL for an empty slice", uploads::null_pointers);
     check_counts(&mut upload);
     upload.report.finish()
@@ -61,6 +67,10 @@ fn check_counts(upload: &mut Upload) {
     let shapes = counts.by_shape.iter().flatten().filter(|count| **count > 0).count();
     at_least("shapes sent", shapes as u64, 61 * 31);
     at_least("lists held against a plan", counts.lists, 1_000_000);
+    at_least("tails planned alone", counts.tails, 20_000);
+    for (name, longer) in ["a longer room", "longer choices", "a longer batch"].iter().zip(counts.longer) {
+        at_least(&format!("plans with {name}"), longer, 20_000);
+    }
     at_least("refused with 10", counts.range, 1_000);
     at_least("refused with 1", counts.lent, 5_000);
 }

@@ -18,7 +18,7 @@ use library::LIBRARY;
 use measure::{side_by_side, REPETITIONS};
 use random::Random;
 use twin::front_end::MAP_BYTES;
-use twin::planner::{self, Lent, BATCH_BYTES, PLAN_BYTES, ROOM_BYTES};
+use twin::planner::{self, Lent, BATCH_BYTES, CHOICES_BYTES, PLAN_BYTES, ROOM_BYTES};
 use twin::settings::POINTS;
 
 /// A repetition plans so often.
@@ -34,16 +34,20 @@ const SEED: u64 = 0x706C_616E_7300;
 struct Written {
     plan: Vec<u8>,
     room: Vec<u8>,
+    choices: Vec<u8>,
     batch: Vec<u8>,
 }
 
 impl Written {
     fn new() -> Self {
-        Written { plan: vec![0; PLAN_BYTES], room: vec![0; ROOM_BYTES], batch: vec![0; BATCH_BYTES] }
+        let [plan, room, choices, batch] =
+            [PLAN_BYTES, ROOM_BYTES, CHOICES_BYTES, BATCH_BYTES].map(|length| vec![0; length]);
+        Written { plan, room, choices, batch }
     }
 
     fn lend<'a>(&'a mut self, (held, wanted): &'a Maps) -> Lent<'a> {
-        Lent { held, wanted, plan: &mut self.plan, room: &mut self.room, batch: &mut self.batch }
+        let Written { plan, room, choices, batch } = self;
+        Lent { held, wanted, plan, room, choices, batch }
     }
 }
 

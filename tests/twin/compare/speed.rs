@@ -112,7 +112,7 @@ mod stack {
 
     use twin::front_end::{Memory, MAP_BYTES};
     use twin::packet::LONGEST;
-    use twin::planner::{BATCH_BYTES, PLAN_BYTES, ROOM_BYTES};
+    use twin::planner::{BATCH_BYTES, CHOICES_BYTES, PLAN_BYTES, ROOM_BYTES};
     use twin::settings::POINTS;
 
     use crate::library;
@@ -122,8 +122,8 @@ mod stack {
     /// For planning, which goes over a whole map.
     const PLANNING_BYTES: usize = 1024 * 1024;
 
-    /// More than any entry has.
-    const ARGUMENTS: usize = 12;
+    /// As many as an entry has, or more; even, so that the stack stays aligned.
+    const ARGUMENTS: usize = 14;
 
     /// Those behind the sixth are passed on the stack, of 8 bytes each.
     const PASSED_ON_STACK: usize = 8 * (ARGUMENTS - 6);
@@ -161,6 +161,8 @@ mod stack {
         asm!(
             "mov r12, rsp",
             "mov rsp, r13",
+            "push qword ptr [rax + 104]",
+            "push qword ptr [rax + 96]",
             "push qword ptr [rax + 88]",
             "push qword ptr [rax + 80]",
             "push qword ptr [rax + 72]",
@@ -241,10 +243,11 @@ mod stack {
             for point in wanted.as_chunks_mut::<4>().0.iter_mut().skip(step - 1).step_by(step) {
                 *point = [1; 4];
             }
-            let (mut list, mut room, mut batch) = ([0; PLAN_BYTES], [0; ROOM_BYTES], [0; BATCH_BYTES]);
-            let slices =
-                [slice(&mut held), slice(&mut wanted), slice(&mut list), slice(&mut room), slice(&mut batch)];
-            let arguments = [&[POINTS as u64][..], slices.as_flattened()].concat();
+            let mut written =
+                [PLAN_BYTES, ROOM_BYTES, CHOICES_BYTES, BATCH_BYTES].map(|length| vec![0; length]);
+            let maps = [slice(&mut held), slice(&mut wanted)];
+            let written = written.each_mut().map(|bytes| slice(bytes));
+            let arguments = [&[POINTS as u64][..], maps.as_flattened(), written.as_flattened()].concat();
             plan.call(library::vermolgas_plan as *const (), &arguments);
         }
         plan

@@ -5,13 +5,16 @@ use std::ops::RangeInclusive;
 
 use twin::front_end::{Memory, MAP_BYTES};
 use twin::packet::LONGEST;
-use twin::planner::{self, packet_bytes, Lent, Planned, BATCH_BYTES, MOST, PLAN_BYTES, ROOM_BYTES};
+use twin::planner::{
+    self, packet_bytes, Lent, Planned, BATCH_BYTES, CHOICES_BYTES, MOST, PLAN_BYTES, ROOM_BYTES,
+};
 use twin::refusal::Refusal;
 use twin::settings::{Point, POINTS};
 
 use crate::library::{Library, LIBRARY};
 use crate::random::Random;
 use crate::report::Report;
+use crate::rooms;
 
 /// Bytes before and behind a lent buffer that must stay as they are.
 const GUARD: usize = 16;
@@ -38,6 +41,10 @@ pub struct Counts {
     pub by_shape: [[u64; 33]; 63],
     /// Lists of packets that a plan was compared with.
     pub lists: u64,
+    /// Plans for the points of another plan from one of them on.
+    pub tails: u64,
+    /// Plans with a longer room, with longer choices, with a longer batch buffer.
+    pub longer: [u64; 3],
     /// Refusals 10 and 1.
     pub range: u64,
     pub lent: u64,
@@ -50,14 +57,23 @@ pub struct Lengths {
     pub wanted: usize,
     pub plan: usize,
     pub room: usize,
+    pub choices: usize,
     pub batch: usize,
 }
 
 impl Lengths {
-    /// The right ones, the batch buffer no longer than it has to be.
+    /// The right ones, room, choices and batch buffer no longer than they have to be.
     pub fn right(points: usize) -> Self {
         let map = size_of::<Point>() * points;
-        Lengths { held: map, wanted: map, plan: PLAN_BYTES, room: ROOM_BYTES, batch: BATCH_BYTES }
+        let (room, choices, batch) = (ROOM_BYTES, CHOICES_BYTES, BATCH_BYTES);
+        Lengths { held: map, wanted: map, plan: PLAN_BYTES, room, choices, batch }
+    }
+
+    /// The right ones, those of room, choices and batch buffer longer by so much.
+    pub fn longer(points: usize, [room, choices, batch]: [usize; 3]) -> Self {
+        let right = Lengths::right(points);
+        let (room, choices, batch) = (right.room + room, right.choices + choices, right.batch + batch);
+        Lengths { room, choices, batch, ..right }
     }
 }
 
@@ -75,16 +91,18 @@ impl Guarded {
     }
 }
 
-/// One side's plan, room and batch.
-type Written = [Guarded; 3];
+/// One side's plan, room, choices and batch.
+type Written = [Guarded; 4];
 
 /// What the library planned.
 pub struct Outcome {
     /// Start and count of each packet.
     pub plan: Vec<(usize, usize)>,
     pub bytes: usize,
-    /// The least bytes from each index on.
+    /// The least bytes from each index on, as far as the room goes.
     pub room: Vec<u32>,
+    /// For each point of a full map the count of a packet from there on.
+    pub choices: Vec<u8>,
 }
 
 pub struct Upload {
@@ -112,6 +130,8 @@ impl Upload {
             sent: 0,
             by_shape: [[0; 33]; 63],
             lists: 0,
+            tails: 0,
+            longer: [0; 3],
             range: 0,
             lent: 0,
         };
@@ -147,14 +167,16 @@ impl Upload {
         lengths: Lengths,
     ) -> (Result<Planned, Refusal>, Written) {
         self.report.inputs += 1;
-        let mut due_written = [lengths.plan, lengths.room, lengths.batch].map(|length| self.guarded(length));
+        let lent = [lengths.plan, lengths.room, lengths.choices, lengths.batch];
+        let mut due_written = lent.map(|length| self.guarded(length));
         let mut written = due_written.clone();
         let expected = planner::plan(points, lend(held, wanted, &mut due_written));
         let answer = self.entries.plan(points, lend(held, wanted, &mut written));
         let due = plan_answer(expected);
         let input = || format!("{points} points, {lengths:?}, {}", differences(held, wanted));
         self.expect(answer == due, || format!("plan gives {answer:#x}, not {due:#x}: {}", input()));
-        for (name, (written, due)) in ["plan", "room", "batch"].iter().zip(written.iter().zip(&due_written)) {
+        let names = ["plan", "room", "choices", "batch"];
+        for (name, (written, due)) in names.iter().zip(written.iter().zip(&due_written)) {
             if written != due {
                 let place = written.bytes.iter().zip(&due.bytes).position(|(byte, due)| byte != due);
                 let place = place.unwrap_or_default();
@@ -182,12 +204,15 @@ impl Upload {
         }
     }
 
-    /// A call with the right lengths. What comes of it is judged apart from the twin, too.
+    /// A call with the right lengths, or longer ones where those are taken. What comes of it is judged
+    /// apart from the twin, too.
     pub fn plan(&mut self, held: &[u8], wanted: &[u8]) -> Outcome {
-        let points = held.len() / 4;
-        let more = self.random.pick(&[0, 0, 0, 1, 4, 999]);
-        let lengths = Lengths { batch: BATCH_BYTES + more, ..Lengths::right(points) };
-        self.plan_lent(held, wanted, lengths)
+        let more = [(); 3].map(|()| match self.random.below(4) {
+            0 | 1 => 0,
+            2 => self.random.below(10),
+            _ => self.random.pick(&[10, 16, 508, 999, 7432]),
+        });
+        self.plan_lent(held, wanted, Lengths::longer(held.len() / 4, more))
     }
 
     pub fn plan_lent(&mut self, held: &[u8], wanted: &[u8], lengths: Lengths) -> Outcome {
@@ -199,15 +224,12 @@ impl Upload {
         });
         let Ok(planned) = expected else {
             self.expect(false, || format!("twin: {expected:?} for {points} points, {lengths:?}"));
-            return Outcome { plan: vec![], bytes: 0, room: vec![] };
+            return Outcome { plan: vec![], bytes: 0, room: vec![], choices: vec![] };
         };
-        let [plan, room, batch] = &mut written;
-        let entries = plan.lent().as_chunks::<4>().0.iter().take(planned.packets);
-        let outcome = Outcome {
-            plan: entries.map(|[a, b, c, d]| (word(*a, *b), word(*c, *d))).collect(),
-            bytes: planned.bytes,
-            room: room.lent().as_chunks().0.iter().map(|number| u32::from_le_bytes(*number)).collect(),
-        };
+        let outcome = outcome(planned, &mut written);
+        let [_, _, _, batch] = &mut written;
+        rooms::judge(self, held, wanted, &outcome);
+        self.count_longer(lengths);
         self.count(held, wanted, &outcome);
         let bound = planner::most_bytes(points);
         self.expect(outcome.bytes <= bound, || format!("{} bytes for {points} points", outcome.bytes));
@@ -223,6 +245,15 @@ impl Upload {
         outcome
     }
 
+    fn count_longer(&mut self, lengths: Lengths) {
+        let right = Lengths::right(0);
+        let longer =
+            [lengths.room > right.room, lengths.choices > right.choices, lengths.batch > right.batch];
+        for (count, longer) in self.counts.longer.iter_mut().zip(longer) {
+            *count += u64::from(longer);
+        }
+    }
+
     fn count(&mut self, held: &[u8], wanted: &[u8], outcome: &Outcome) {
         let (held, wanted) = (held.as_chunks::<4>().0, wanted.as_chunks::<4>().0);
         let counts = &mut self.counts;
@@ -231,6 +262,7 @@ impl Upload {
         counts.packets += outcome.plan.len() as u64;
         counts.empty += u64::from(outcome.plan.is_empty());
         counts.at_bound += u64::from(outcome.bytes == planner::most_bytes(points));
+        let bytes = rooms::chosen_bytes(&outcome.choices[..points]);
         let mut tied = false;
         for (start, count) in &outcome.plan {
             let (start, count) = (*start, *count);
@@ -240,9 +272,9 @@ impl Upload {
             counts.full_packets += u64::from(count == MOST);
             let places = start..start + count;
             counts.bridges += u64::from(places.into_iter().any(|place| held[place] == wanted[place]));
-            let cost = |count: usize| outcome.room[start + count].saturating_add(packet_bytes(count) as u32);
+            let cost = |count: usize| bytes[start + count] + packet_bytes(count) as u32;
             let longest = MOST.min(points - start);
-            tied |= (count + 1..=longest).any(|longer| cost(longer) == outcome.room[start]);
+            tied |= (count + 1..=longest).any(|longer| cost(longer) == bytes[start]);
         }
         counts.tied += u64::from(tied);
     }
@@ -318,8 +350,21 @@ fn word(low: u8, high: u8) -> usize {
 }
 
 fn lend<'a>(held: &'a [u8], wanted: &'a [u8], written: &'a mut Written) -> Lent<'a> {
-    let [plan, room, batch] = written.each_mut().map(Guarded::lent);
-    Lent { held, wanted, plan, room, batch }
+    let [plan, room, choices, batch] = written.each_mut().map(Guarded::lent);
+    Lent { held, wanted, plan, room, choices, batch }
+}
+
+/// What an answer and what was written say.
+fn outcome(planned: Planned, written: &mut Written) -> Outcome {
+    let [plan, room, choices, _] = written.each_mut().map(Guarded::lent);
+    let entries = plan.as_chunks::<4>().0.iter().take(planned.packets);
+    let numbers = room[..ROOM_BYTES].as_chunks().0.iter();
+    Outcome {
+        plan: entries.map(|[a, b, c, d]| (word(*a, *b), word(*c, *d))).collect(),
+        bytes: planned.bytes,
+        room: numbers.map(|number| u32::from_le_bytes(*number)).collect(),
+        choices: choices[..CHOICES_BYTES].to_vec(),
+    }
 }
 
 /// The answer of `vermolgas_plan`.
@@ -343,7 +388,7 @@ fn split<'a>(batch: &'a [u8], outcome: &Outcome) -> Option<Vec<&'a [u8]>> {
 }
 
 /// Which points differ, in words.
-fn differences(held: &[u8], wanted: &[u8]) -> String {
+pub fn differences(held: &[u8], wanted: &[u8]) -> String {
     let pairs = held.as_chunks::<4>().0.iter().zip(wanted.as_chunks().0);
     let differing: Vec<usize> =
         pairs.enumerate().filter(|(_, (a, b))| a != b).map(|(place, _)| place).collect();

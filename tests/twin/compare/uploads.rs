@@ -1,6 +1,6 @@
 //! Groups of uploads: which points differ and how, and what is lent.
 
-use twin::planner::{BATCH_BYTES, MOST};
+use twin::planner::MOST;
 use twin::refusal::Refusal;
 use twin::settings::{Point, POINTS};
 
@@ -25,7 +25,7 @@ impl Kind {
 }
 
 /// Numbers of points with few or no divisors, and those around a packet's most.
-const NUMBERS: [usize; 28] = [
+pub const NUMBERS: [usize; 28] = [
     1, 2, 3, 5, 7, 13, 31, 61, 113, 125, 126, 127, 128, 131, 251, 252, 253, 377, 378, 379, 631, 997, 1009,
     1511, 1889, 1979, 1983, 1984,
 ];
@@ -124,9 +124,13 @@ pub fn every_pattern(upload: &mut Upload) {
     }
 }
 
-/// So many of 1,000 points differ, at random.
+/// Whether each point differs: so many of 1,000, at random.
+pub fn at_random(upload: &mut Upload, points: usize, of_thousand: usize) -> Vec<bool> {
+    (0..points).map(|_| upload.random.below(1000) < of_thousand).collect()
+}
+
 fn plan_random(upload: &mut Upload, points: usize, of_thousand: usize) {
-    let differing: Vec<bool> = (0..points).map(|_| upload.random.below(1000) < of_thousand).collect();
+    let differing = at_random(upload, points, of_thousand);
     plan_differing(upload, points, |place| differing[place]);
 }
 
@@ -246,9 +250,10 @@ pub fn numbers_refused(upload: &mut Upload) {
             let right = Lengths { held: length, wanted: length, ..Lengths::right(0) };
             let mut all = vec![right];
             all.extend([0, right.plan - 1].map(|plan| Lengths { plan, ..right }));
-            all.extend([0, right.room + 1].map(|room| Lengths { room, ..right }));
+            all.extend([0, right.room - 1].map(|room| Lengths { room, ..right }));
+            all.extend([0, right.choices - 1].map(|choices| Lengths { choices, ..right }));
             all.extend([0, right.batch - 1, 65_536].map(|batch| Lengths { batch, ..right }));
-            all.push(Lengths { plan: 1, room: 1, batch: 1, ..right });
+            all.push(Lengths { plan: 1, room: 1, choices: 1, batch: 1, ..right });
             for lengths in all {
                 upload.refused(number, &held[..length], &wanted[..length], lengths, Refusal::Range);
                 upload.refused(number, &held[..length], &held[..length], lengths, Refusal::Range);
@@ -262,54 +267,95 @@ fn wrong_lengths(right: usize) -> Vec<usize> {
     let mut lengths = vec![0, 1, 2, 3, 4, right / 2, right / 4, 2 * right, 2 * right + 1, right + 0x1_0000];
     lengths.extend([1, 2, 3, 4, 5, 8].map(|less| right.saturating_sub(less)));
     lengths.extend([1, 2, 3, 4, 5, 8].map(|more| right + more));
-    // Numbers in the place of bytes, and the lengths of the others.
-    lengths.extend([1984, 1985, 3968, 7936, 7940, 8032]);
+    // Numbers in the place of bytes, the lengths of the others, and the room's before it was cut.
+    lengths.extend([127, 508, 1984, 1985, 3968, 7936, 7940, 8032]);
     lengths.retain(|length| *length != right);
     lengths.sort_unstable();
     lengths.dedup();
     lengths
 }
 
-/// Each length wrong by itself, and several at once; longer batch buffers are right.
-pub fn lengths(upload: &mut Upload) {
-    let bytes = upload.random.bytes(2 * 0x1_4000);
-    let (held, wanted) = bytes.split_at(0x1_4000);
-    let mut refuse = |points: usize, lengths: Lengths| {
-        let (held, wanted) = (&held[..lengths.held], &wanted[..lengths.wanted]);
-        upload.refused(points as u32, held, wanted, lengths, Refusal::Lent);
-    };
-    for points in NUMBERS {
-        let right = Lengths::right(points);
-        for map in wrong_lengths(right.held) {
-            refuse(points, Lengths { held: map, ..right });
-            refuse(points, Lengths { wanted: map, ..right });
-            refuse(points, Lengths { held: map, wanted: map, ..right });
-        }
-        for plan in wrong_lengths(right.plan) {
-            refuse(points, Lengths { plan, ..right });
-        }
-        for room in wrong_lengths(right.room) {
-            refuse(points, Lengths { room, ..right });
-        }
-        for batch in wrong_lengths(right.batch).into_iter().filter(|length| *length < right.batch) {
-            refuse(points, Lengths { batch, ..right });
-            refuse(points, Lengths { batch, plan: right.room, room: right.plan, ..right });
-        }
-        // Enough for this map, but not for a full one.
-        let own = 10 * points;
-        if own < right.batch {
-            refuse(points, Lengths { batch: own, ..right });
-        }
-        refuse(points, Lengths { plan: 4 * points - 1, room: 4 * points + 3, ..right });
+/// Of those the ones that are wrong where longer ones are right.
+fn short_lengths(least: usize) -> impl Iterator<Item = usize> {
+    wrong_lengths(least).into_iter().filter(move |length| *length < least)
+}
+
+/// Lengths for so many points of which one is wrong, or several are.
+fn wrong(points: usize) -> Vec<Lengths> {
+    let right = Lengths::right(points);
+    let mut all = Vec::new();
+    for map in wrong_lengths(right.held) {
+        all.push(Lengths { held: map, ..right });
+        all.push(Lengths { wanted: map, ..right });
+        all.push(Lengths { held: map, wanted: map, ..right });
     }
-    for points in NUMBERS {
-        for batch in [BATCH_BYTES, BATCH_BYTES + 1, 16_064, 0xFFFF, 0x1_0000, 0x1_0001, LARGEST] {
-            let kind = any_kind(upload);
-            let (held, wanted) = maps(upload, points, kind, |place| place % 7 != 3);
-            upload.plan_lent(&held, &wanted, Lengths { batch, ..Lengths::right(points) });
-        }
+    all.extend(wrong_lengths(right.plan).into_iter().map(|plan| Lengths { plan, ..right }));
+    all.extend(short_lengths(right.room).map(|room| Lengths { room, ..right }));
+    all.extend(short_lengths(right.choices).map(|choices| Lengths { choices, ..right }));
+    all.extend(short_lengths(right.batch).map(|batch| Lengths { batch, ..right }));
+    // Those of others, and enough for this map, but not for a full one.
+    all.push(Lengths { room: right.choices, choices: right.room, ..right });
+    all.push(Lengths { plan: right.batch, batch: right.plan, ..right });
+    all.push(Lengths { plan: 4 * points - 1, room: 4 * points + 3, ..right });
+    all.push(Lengths { choices: points.min(right.choices - 1), ..right });
+    all.push(Lengths { batch: (10 * points).min(right.batch - 1), ..right });
+    all
+}
+
+/// Calls with these lengths, each refused with 1.
+fn refuse_all(upload: &mut Upload, points: usize, all: impl Iterator<Item = Lengths>) {
+    let bytes = upload.random.bytes(2 * LARGEST);
+    for lengths in all {
+        let (held, wanted) = (&bytes[..lengths.held], &bytes[LARGEST..][..lengths.wanted]);
+        upload.refused(points as u32, held, wanted, lengths, Refusal::Lent);
     }
 }
+
+/// Each length wrong by itself, and several at once.
+pub fn lengths(upload: &mut Upload) {
+    for points in NUMBERS {
+        refuse_all(upload, points, wrong(points).into_iter());
+    }
+}
+
+/// Every length of the room, and every one of the choices, that is too short.
+pub fn short_rooms(upload: &mut Upload) {
+    for points in [1, 3, MOST, MOST + 1, POINTS] {
+        let right = Lengths::right(points);
+        let rooms = (0..right.room).map(|room| Lengths { room, ..right });
+        let choices = (0..right.choices).map(|choices| Lengths { choices, ..right });
+        refuse_all(upload, points, rooms.chain(choices));
+    }
+}
+
+/// A plan for so many points with these lengths.
+fn plan_longer(upload: &mut Upload, points: usize, more: [usize; 3]) {
+    let (kind, step) = (any_kind(upload), 1 + upload.random.below(9));
+    let (held, wanted) = maps(upload, points, kind, |place| place % step != 3);
+    upload.plan_lent(&held, &wanted, Lengths::longer(points, more));
+}
+
+/// Room, choices and batch buffer longer: by 0 to 9 bytes, each with each; and by more, also such
+/// that 16 bits count as too short.
+pub fn longer_rooms(upload: &mut Upload) {
+    for points in [1, 5, MOST, MOST + 1, MOST + 2, POINTS] {
+        for more in 0..1000 {
+            plan_longer(upload, points, [more % 10, more / 10 % 10, more / 100]);
+        }
+    }
+    let right = Lengths::right(0);
+    for (points, more) in NUMBERS.into_iter().flat_map(|points| MORE.map(|more| (points, more))) {
+        plan_longer(upload, points, [more, 0, 0]);
+        plan_longer(upload, points, [0, more, 0]);
+        plan_longer(upload, points, [0, 0, more]);
+        plan_longer(upload, points, [more; 3]);
+        let wrapped = [right.room, right.choices, right.batch].map(|least| 0x1_0000 - 1 - more.min(least));
+        plan_longer(upload, points, wrapped);
+    }
+}
+
+/// More bytes than a room needs.
+const MORE: [usize; 12] = [10, 11, 12, 13, 16, 127, 508, 1984, 7432, 8032, 0xFFFF - 8032, 0xFFFF];
 
 /// NULL with length 0 is an empty slice: each by itself, several, all.
 pub fn null_pointers(upload: &mut Upload) {
@@ -317,7 +363,7 @@ pub fn null_pointers(upload: &mut Upload) {
     let bytes = upload.random.bytes(2 * 4 * POINTS);
     let (held, wanted) = bytes.split_at(4 * POINTS);
     for points in NUMBERS {
-        for empty in 1..1 << 5 {
+        for empty in 1..1 << 6 {
             let kept = |place: usize, length: usize| if empty >> place & 1 == 1 { 0 } else { length };
             let right = Lengths::right(points);
             let lengths = Lengths {
@@ -325,7 +371,8 @@ pub fn null_pointers(upload: &mut Upload) {
                 wanted: kept(1, right.wanted),
                 plan: kept(2, right.plan),
                 room: kept(3, right.room),
-                batch: kept(4, right.batch),
+                choices: kept(4, right.choices),
+                batch: kept(5, right.batch),
             };
             let (held, wanted) = (&held[..lengths.held], &wanted[..lengths.wanted]);
             upload.refused(points as u32, held, wanted, lengths, Refusal::Lent);

@@ -448,20 +448,28 @@ fn reply_reading_refuses_in_order() {
     assert_eq!(read("0C 00 00", false), 0);
 }
 
-/// Plans between maps of so many points that differ in these: the answer, the (start, count) list,
-/// the room and the batch. What lies behind the list and the batch is unchanged, and the batch is
-/// made of the packets that the list names.
-fn plan(points: usize, differs: impl Fn(usize) -> bool) -> (Planned, Vec<(usize, usize)>, Vec<u32>) {
+/// A plan: the answer, the (start, count) list, room and choices.
+struct BenchPlan {
+    planned: Planned,
+    list: Vec<(usize, usize)>,
+    room: Vec<u32>,
+    choices: Vec<u8>,
+}
+
+/// Plans between maps of so many points that differ in these. What lies behind list, room, choices and
+/// batch is unchanged, and the batch is made of the packets that the list names.
+fn plan(points: usize, differs: impl Fn(usize) -> bool) -> BenchPlan {
     let held: Vec<u8> = (0..4 * points).map(|place| (place * 7) as u8).collect();
     let wanted: Vec<u8> =
         held.iter().enumerate().map(|(place, byte)| byte ^ u8::from(differs(place / 4))).collect();
-    let [mut plan, mut room, mut batch] =
-        [planner::PLAN_BYTES, planner::ROOM_BYTES, planner::BATCH_BYTES + 5].map(|length| vec![0xAA; length]);
-    let lent =
-        planner::Lent { held: &held, wanted: &wanted, plan: &mut plan, room: &mut room, batch: &mut batch };
+    let mut written = [7936, 508 + 3, 1984 + 1, 8032 + 5].map(|length| vec![0xAA; length]);
+    let [plan, room, choices, batch] = &mut written;
+    let lent = planner::Lent { held: &held, wanted: &wanted, plan, room, choices, batch };
     let planned = planner::plan(points as u32, lent).expect("number and lengths are right");
-    let (list, rest) = plan.split_at(4 * planned.packets);
-    assert!(rest.iter().chain(&batch[planned.bytes..]).all(|byte| *byte == 0xAA));
+    let used = [4 * planned.packets, 508, 1984, planned.bytes];
+    let mut behind = written.iter().zip(used).flat_map(|(bytes, used)| &bytes[used..]);
+    assert!(behind.all(|byte| *byte == 0xAA));
+    let [list, room, choices, batch]: [&[u8]; 4] = std::array::from_fn(|part| &written[part][..used[part]]);
     let list: Vec<(usize, usize)> = list
         .as_chunks()
         .0
@@ -473,51 +481,80 @@ fn plan(points: usize, differs: impl Fn(usize) -> bool) -> (Planned, Vec<(usize,
         let command = Command::Write(Write::Map { start: *start as u16, points });
         assemble(Header::from_byte(0x14).options, &command)
     });
-    assert_eq!(packets.collect::<Vec<u8>>(), batch[..planned.bytes]);
-    (planned, list, room.as_chunks().0.iter().map(|number| u32::from_le_bytes(*number)).collect())
+    assert_eq!(packets.collect::<Vec<u8>>(), batch);
+    let room = room.as_chunks().0.iter().map(|number| u32::from_le_bytes(*number)).collect();
+    BenchPlan { planned, list, room, choices: choices.to_vec() }
+}
+
+/// The rooms begin with these numbers and choices, and have zeros behind them.
+fn expect_rooms(plan: &BenchPlan, numbers: &[u32], choices: &[u8]) {
+    assert_eq!(plan.room[..numbers.len()], *numbers);
+    assert_eq!(plan.choices[..choices.len()], *choices);
+    assert!(plan.room[numbers.len()..].iter().all(|bytes| *bytes == 0));
+    assert!(plan.choices[choices.len()..].iter().all(|count| *count == 0));
 }
 
 #[test]
 fn bench_plans() {
-    let (planned, list, room) = plan(5, |place| place == 0 || place == 2);
-    assert_eq!((planned, list), (Planned { packets: 1, bytes: 18 }, vec![(0, 3)]));
-    assert_eq!(room[..3], [18, 10, 10]);
-    assert!(room[3..].iter().all(|bytes| *bytes == 0));
-    let (planned, list, _) = plan(4, |place| place == 0 || place == 3);
-    assert_eq!((planned, list), (Planned { packets: 2, bytes: 20 }, vec![(0, 1), (3, 1)]));
-    let (planned, list, _) = plan(128, |place| place != 63);
-    assert_eq!((planned, list), (Planned { packets: 2, bytes: 520 }, vec![(0, 63), (64, 64)]));
-    let (planned, list, _) = plan(1984, |_| true);
-    assert_eq!((planned, list[0]), (Planned { packets: 16, bytes: 8032 }, (0, 94)));
-    assert!(list[1..].iter().all(|(_, count)| *count == 126));
-    let (planned, _, room) = plan(1984, |_| false);
-    assert_eq!((planned, room), (Planned::default(), vec![0; 1985]));
+    let due = |plan: &BenchPlan, bytes: usize, list: &[(usize, usize)]| {
+        assert_eq!(plan.planned, Planned { packets: list.len(), bytes });
+        assert_eq!(plan.list, list);
+    };
+    let bridged = plan(5, |place| place == 0 || place == 2);
+    due(&bridged, 18, &[(0, 3)]);
+    expect_rooms(&bridged, &[18, 10, 10], &[3, 0, 1]);
+    let apart = plan(4, |place| place == 0 || place == 3);
+    due(&apart, 20, &[(0, 1), (3, 1)]);
+    expect_rooms(&apart, &[20, 10, 10, 10], &[1, 0, 0, 1]);
+    let halves = plan(128, |place| place != 63);
+    due(&halves, 520, &[(0, 63), (64, 64)]);
+    assert_eq!((&halves.room[..3], &halves.choices[..3]), (&[520, 516, 510][..], &[63, 62, 126][..]));
+    let equal = plan(1984, |_| false);
+    due(&equal, 0, &[]);
+    expect_rooms(&equal, &[], &[]);
+}
+
+#[test]
+fn bench_plans_of_full_packets() {
+    let full = plan(1984, |_| true);
+    assert_eq!((full.planned, full.list[0]), (Planned { packets: 16, bytes: 8032 }, (0, 94)));
+    assert!(full.list[1..].iter().all(|(_, count)| *count == 126));
+    assert_eq!(full.room[93..95], [7660, 7650]);
+    // As many as come before a whole number of full packets, from each point on.
+    for (point, count) in full.choices.iter().enumerate() {
+        assert_eq!(usize::from(*count), (1983 - point) % 126 + 1);
+    }
+    let one_more = plan(127, |_| true);
+    let numbers: Vec<u32> =
+        (0..127).map(|point| if point == 0 { 520 } else { 6 + 4 * (127 - point) }).collect();
+    let choices: Vec<u8> = (0..127).map(|point| if point == 0 { 1 } else { 127 - point }).collect();
+    expect_rooms(&one_more, &numbers, &choices);
 }
 
 #[test]
 fn planning_refuses_in_order() {
-    let refusal = |points, [held, wanted, plan, room, batch]: [usize; 5]| {
+    let refusal = |points, [held, wanted, plan, room, choices, batch]: [usize; 6]| {
         let maps = [vec![1; held], vec![2; wanted]];
-        let mut written = [plan, room, batch].map(|length| vec![0xAA; length]);
-        let [plan, room, batch] = &mut written;
-        let refusal =
-            planner::plan(points, planner::Lent { held: &maps[0], wanted: &maps[1], plan, room, batch });
+        let mut written = [plan, room, choices, batch].map(|length| vec![0xAA; length]);
+        let [plan, room, choices, batch] = &mut written;
+        let lent = planner::Lent { held: &maps[0], wanted: &maps[1], plan, room, choices, batch };
+        let refusal = planner::plan(points, lent);
         let unchanged = written.iter().flatten().all(|byte| *byte == 0xAA);
         assert_eq!(refusal.is_err(), unchanged);
         refusal.map_or_else(Refusal::number, |_| 0)
     };
     for number in [0, 1985, u32::MAX] {
-        assert_eq!(refusal(number, [0; 5]), 10);
-        assert_eq!(refusal(number, [7940, 7940, 7936, 7940, 8032]), 10);
+        assert_eq!(refusal(number, [0; 6]), 10);
+        assert_eq!(refusal(number, [7940, 7940, 7936, 508, 1984, 8032]), 10);
     }
-    let right = [12, 12, 7936, 7940, 8032];
+    let right = [12, 12, 7936, 508, 1984, 8032];
     assert_eq!(refusal(3, right), 0);
-    assert_eq!(refusal(3, [12, 12, 7936, 7940, 9000]), 0);
-    for place in 0..5 {
-        for wrong in [0, 1, right[place] - 1, right[place] + 1, 2 * right[place]] {
+    assert_eq!(refusal(3, [12, 12, 7936, 7940, 2000, 9000]), 0);
+    for place in 0..6 {
+        for wrong in [0, 1, right[place] - 1, right[place] + 1, right[place] + 3, 2 * right[place]] {
             let mut lengths = right;
             lengths[place] = wrong;
-            let due = if place == 4 && wrong > 8032 { 0 } else { 1 };
+            let due = if place >= 3 && wrong > right[place] { 0 } else { 1 };
             assert_eq!(refusal(3, lengths), due, "{lengths:?}");
         }
     }

@@ -10,7 +10,7 @@
 //! - [`settings`]: the typed settings, their ranges and their values after reset;
 //! - [`block`]: the layout of the settings block, both ways (refusal 1);
 //! - [`front_end`]: one packet on what a host lends (refusals 1 and 12, effects, the reply), and reset;
-//! - [`planner`]: upload planning (refusals 10 and 1, plan, room and batch);
+//! - [`planner`]: upload planning (refusals 10 and 1, plan, room, choices and batch);
 //! - [`replay`]: session files, and what a replay prints;
 //! - [`scripts`]: sessions by hand, each packet with its answer.
 

@@ -37,6 +37,12 @@ add-word-5 c = search needs
 word-requires-6 : tie.Need-word-requires-6
 word-requires-6 c κs = search needs
 
+add-word-6 : tie.Need-add-word-6
+add-word-6 c = search needs
+
+word-requires-7 : tie.Need-word-requires-7
+word-requires-7 c κs = search needs
+
 returns : tie.Need-returns
 returns c = search needs
 
@@ -51,6 +57,9 @@ returns-4 c = search needs
 
 returns-5 : tie.Need-returns-5
 returns-5 c = search needs
+
+returns-6 : tie.Need-returns-6
+returns-6 c = search needs
 
 cast-try-plan : tie.Need-cast-try-plan
 cast-try-plan c = search needs
@@ -79,6 +88,12 @@ slice-relend-prefix-try-plan-3 c = search needs
 slice-aggregate-try-plan-5 : tie.Need-slice-aggregate-try-plan-5
 slice-aggregate-try-plan-5 c = search (needs, length-take-le)
 
+slice-relend-prefix-try-plan-4 : tie.Need-slice-relend-prefix-try-plan-4
+slice-relend-prefix-try-plan-4 c = search needs
+
+slice-aggregate-try-plan-6 : tie.Need-slice-aggregate-try-plan-6
+slice-aggregate-try-plan-6 c = search (needs, length-take-le)
+
 try-plan-requires : tie.Need-try-plan-requires
 try-plan-requires c κs = search needs
 
@@ -91,8 +106,11 @@ same-length-2 c = search needs
 same-length-3 : tie.Need-same-length-3
 same-length-3 c = search needs
 
-returns-6 : tie.Need-returns-6
-returns-6 c = search needs
+same-length-4 : tie.Need-same-length-4
+same-length-4 c = search needs
+
+returns-7 : tie.Need-returns-7
+returns-7 c = search needs
 
 pub plan-part-spec : {M : Type 1} → statement M
 plan-part-spec =
@@ -109,11 +127,14 @@ plan-part-spec =
     word-requires-5
     add-word-5
     word-requires-6
+    add-word-6
+    word-requires-7
     returns
     returns-2
     returns-3
     returns-4
     returns-5
+    returns-6
     cast-try-plan
     slice-aggregate-try-plan
     slice-aggregate-try-plan-2
@@ -123,8 +144,11 @@ plan-part-spec =
     slice-aggregate-try-plan-4
     slice-relend-prefix-try-plan-3
     slice-aggregate-try-plan-5
+    slice-relend-prefix-try-plan-4
+    slice-aggregate-try-plan-6
     try-plan-requires
     same-length
     same-length-2
     same-length-3
-    returns-6)
+    same-length-4
+    returns-7)

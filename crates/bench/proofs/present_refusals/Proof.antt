@@ -7,10 +7,10 @@ use Rattle.bench.proofs.present_refusals.Statement.{statement}
 use Rattle.bench.proofs.present_refusals.Tie as tie
 
 abbrev Inv-loop : tie.InvT-loop
-Inv-loop script map plan₀ room₀ batch₀ at₀ plan room batch at = (length plan ≡ 3969) × (length room ≡ 1986) × (length batch ≡ 8032)
+Inv-loop script map plan₀ room₀ choices₀ batch₀ at₀ plan room choices batch at = (length plan ≡ 3969) × (length room ≡ 128) × (length choices ≡ 1985) × (length batch ≡ 8033)
 
 abbrev μ-loop : tie.MeasureT-loop
-μ-loop script map plan₀ room₀ batch₀ at₀ plan room batch at = length script - at
+μ-loop script map plan₀ room₀ choices₀ batch₀ at₀ plan room choices batch at = length script - at
 
 loop-holds : tie.Need-loop-holds Inv-loop μ-loop
 loop-holds c = search needs
@@ -26,6 +26,9 @@ slice-aggregate-plan-part-3 c = search needs
 
 slice-aggregate-plan-part-4 : tie.Need-slice-aggregate-plan-part-4 Inv-loop μ-loop
 slice-aggregate-plan-part-4 c = search needs
+
+slice-aggregate-plan-part-5 : tie.Need-slice-aggregate-plan-part-5 Inv-loop μ-loop
+slice-aggregate-plan-part-5 c = search needs
 
 plan-part-requires : tie.Need-plan-part-requires Inv-loop μ-loop
 plan-part-requires c κs = search needs
@@ -53,6 +56,7 @@ present-refusals-spec =
     slice-aggregate-plan-part-2
     slice-aggregate-plan-part-3
     slice-aggregate-plan-part-4
+    slice-aggregate-plan-part-5
     plan-part-requires
     add-at
     loop-less

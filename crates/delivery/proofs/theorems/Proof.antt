@@ -4,7 +4,6 @@ use native.Mathlib.Omega.{arith}
 use Rattle.wire.specs.Checksum.{checksum}
 use Rattle.controller.proofs.Demands.{runs, right-running}
 use Rattle.controller.proofs.Live.{live-kept}
-use Rattle.upload.proofs.Least.{room-packet}
 use Rattle.upload.proofs.Announced.{batch-announced}
 use Rattle.upload.proofs.Bytes.{batch-bytes}
 use Rattle.upload.proofs.Examples.{examples}
@@ -18,7 +17,6 @@ returns c =
     record {
       live-kept = live-kept;
       delivered = λ n held wanted h w s reply l. delivered n held wanted h w s reply (runs s reply (right-running l));
-      smallest-count = room-packet;
       batch-bytes = λ n held wanted small h w. batch-bytes n small wanted w held h;
       announced-sound = λ p s h. rw h (omega (arith, s .whole, s .counted h));
       batch-walked = λ n held wanted h w. batch-announced n held wanted (h .long) (w .long);

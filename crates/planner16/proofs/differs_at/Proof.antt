@@ -1,6 +1,6 @@
 -- The law on two maps at a point, with the tests' answers.
 use borrow.Author.Tests.{ne-eqb, eq-eqb}
-use Rattle.upload.proofs.Walk.{differs-at}
+use Rattle.upload.proofs.Differs.{differs-at}
 use borrow.Author.Needs.{needs}
 use Rattle.planner16.proofs.differs_at.Statement.{statement}
 use Rattle.planner16.proofs.differs_at.Tie as tie

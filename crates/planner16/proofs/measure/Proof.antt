@@ -1,57 +1,87 @@
--- The loop keeps that the room is filled from i on.
+-- The loop keeps what it carries, and that room and choices are filled from i on.
+use mathlib.Core.Path.{_≡_, _∙_}
 use native.Mathlib.Omega.{arith}
+use lib.ListN.{length}
+use Rattle.tables.proofs.Bytes.{zero-bytes}
 use Rattle.upload.specs.Cost.{differs}
 use Rattle.upload.proofs.Differs.{lent-long}
-use Rattle.upload.specs.Internal.{Filling}
-use Rattle.upload.proofs.Rooms.{fill-start, fill-at, fill-turn, fill-done}
+use Rattle.upload.proofs.Rooms.{Measuring, measure-start, measure-small, measure-turn, measure-done}
+use Rattle.upload.proofs.Outcome.{measured}
+use Rattle.planning.specs.Internal.{carriedIn}
+use borrow.Author.Needs.{needs}
 use Rattle.planner16.proofs.measure.Statement.{statement}
 use Rattle.planner16.proofs.measure.Tie as tie
 
 abbrev Inv-loop : tie.InvT-loop
-Inv-loop held wanted room₀ n i₀ room i = Filling n (differs held wanted) room i
+Inv-loop held wanted room₀ choices₀ n p₀ i₀ room choices p i = Measuring (differs held wanted) (length room₀) (length choices₀) (carriedIn p) room choices i
+    × (length room ≡ length room₀)
+    × (length choices ≡ length choices₀)
 
 abbrev μ-loop : tie.MeasureT-loop
-μ-loop held wanted room₀ n i₀ room i = i
+μ-loop held wanted room₀ choices₀ n p₀ i₀ room choices p i = i
 
 clear-requires : tie.Need-clear-requires Inv-loop μ-loop
-clear-requires c κs = omega arith
+clear-requires c κs = search needs
+
+fill-bytes-requires : tie.Need-fill-bytes-requires Inv-loop μ-loop
+fill-bytes-requires c κs = search needs
+
+at-end-requires : tie.Need-at-end-requires Inv-loop μ-loop
+at-end-requires c κs = search needs
 
 loop-holds : tie.Need-loop-holds Inv-loop μ-loop
 loop-holds c =
-    let at-start = c .before .before .before .before .before .before .before in
+    let at-start = c .before .before .before .before .before .before .before .before .before .before .before .before .before in
     let args = at-start .args in
-    let pre = at-start .pre in
-    fill-start (args .room .now) (pre .0 .few) (lent-long (pre .0)) (pre .1) (c .before .before .clear .kept .0) (c .before .before .clear .ensures)
+    let maps = at-start .pre .0 in (
+      measure-start _ _ (length (args .room .now)) (length (args .choices .now)) (lent-long maps) (c .at-end .ensures) (c .before .before .before .before .before .before .before .clear .ensures) (c .before .before .before .fill-bytes .ensures ∙ zero-bytes (args .choices .now) (omega arith)),
+      omega arith,
+      omega arith,
+    )
 
 sub-i : tie.Need-sub-i Inv-loop μ-loop
 sub-i c = omega arith
 
-least-at-requires : tie.Need-least-at-requires Inv-loop μ-loop
-least-at-requires c κs =
-    let at-loop = c .before .before in
-    (at-loop .before .before .before .before .before .before .before .before .pre .0, fill-at (omega arith) (at-loop .loop .inv))
+differs-at-requires : tie.Need-differs-at-requires Inv-loop μ-loop
+differs-at-requires c κs =
+    let inv = c .before .loop .inv in
+    let all = lent-long (c .before .before .before .before .before .before .before .before .before .before .before .before .before .before .before .pre .0) in
+    omega (arith, inv .0 .within)
 
-mul-room : tie.Need-mul-room Inv-loop μ-loop
-mul-room c = omega arith
+choose-requires : tie.Need-choose-requires Inv-loop μ-loop
+choose-requires c κs =
+    let inv = c .before .before .before .loop .inv in
+    let maps = c .before .before .before .before .before .before .before .before .before .before .before .before .before .before .before .before .before .pre .0 in
+    let all = lent-long maps in
+    measure-small (omega (arith, maps .few)) (inv .0)
 
-slice-write-room : tie.Need-slice-write-room Inv-loop μ-loop
-slice-write-room c = omega arith
+keep-requires : tie.Need-keep-requires Inv-loop μ-loop
+keep-requires c κs = search needs
 
 loop-less : tie.Need-loop-less Inv-loop μ-loop
 loop-less c = omega arith
 
 loop-again : tie.Need-loop-again Inv-loop μ-loop
 loop-again c =
-    let at-start = c .before .before .before .before .before .before .before .before .before .before .before in
-    let maps = at-start .pre .0 in
-    let at-loop = c .before .before .before in
-    fill-turn (maps .few) (lent-long maps) (omega arith) (c .least-at .ensures) (at-loop .loop .inv)
+    (measure-turn _ (omega arith) (c .before .before .before .before .before .before .before .before .differs-at .ensures) (c .before .before .before .before .before .before .choose .ensures) (c .before .before .keep .ensures) (c .before .before .before .before .before .before .before .before .before .before .loop .inv .0), omega arith, omega arith)
 
 same-length : tie.Need-same-length Inv-loop μ-loop
-same-length c = omega (arith, c .before .loop .inv .long)
+same-length c = omega arith
+
+same-length-2 : tie.Need-same-length-2 Inv-loop μ-loop
+same-length-2 c = omega arith
 
 returns : tie.Need-returns Inv-loop μ-loop
-returns c = fill-done (c .loop-test .left) (c .before .loop .inv)
+returns c =
+    let at-start = c .before .before .before .before .before .before .before .before .before .before .before .before .before .before .before in
+    let args = at-start .args in
+    let maps = at-start .pre .0 in
+    measured (args .n) (args .held .now) (args .wanted .now)
+    (record { long = maps .held-long; words = λ k. c .before .before .before .before .before .before .before .before .before .before .before .before .before .before .shared-slice-known .given k .fits })
+    (record { long = maps .wanted-long; words = λ k. c .before .before .before .before .before .before .before .before .before .before .before .before .before .shared-slice-known2 .given k .fits })
+    (omega arith)
+    (omega arith)
+    (measure-done (c .loop-test .left) (c .before .loop .inv .0))
 
 pub measure-spec : {M : Type 1} → statement M
 measure-spec =
@@ -60,12 +90,15 @@ measure-spec =
     Inv-loop
     μ-loop
     clear-requires
+    fill-bytes-requires
+    at-end-requires
     loop-holds
     sub-i
-    least-at-requires
-    mul-room
-    slice-write-room
+    differs-at-requires
+    choose-requires
+    keep-requires
     loop-less
     loop-again
     same-length
+    same-length-2
     returns)

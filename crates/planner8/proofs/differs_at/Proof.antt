@@ -1,81 +1,25 @@
--- The law on two maps at a point, with the tests' answers.
-use native.Mathlib.Omega.{arith}
-use borrow.Author.Tests.{ne-eqb, eq-eqb}
-use Rattle.wire.specs.Tables.{words}
-use Rattle.wire.proofs.Tables.{length-pairs}
-use Rattle.upload.proofs.Walk.{differs-at}
+-- The law on two points as two numbers.
+use Rattle.planner8.proofs.Places.{differs-longs}
 use borrow.Author.Needs.{needs}
 use Rattle.planner8.proofs.differs_at.Statement.{statement}
 use Rattle.planner8.proofs.differs_at.Tie as tie
 
-mul-j : tie.Need-mul-j
-mul-j c = search needs
+long-at-requires : tie.Need-long-at-requires
+long-at-requires c κs = search needs
 
-word-at-requires : tie.Need-word-at-requires
-word-at-requires c κs = search needs
-
-word-at-requires-2 : tie.Need-word-at-requires-2
-word-at-requires-2 c κs = search needs
+long-at-requires-2 : tie.Need-long-at-requires-2
+long-at-requires-2 c κs = search needs
 
 returns : tie.Need-returns
 returns c =
-    let args = c .before .before .before .before .before .args in
+    let at-start = c .before .before .before .before in
+    let args = at-start .args in
     rw (
-      differs-at (words (args .held .now)) (words (args .wanted .now)) (args .i) (rw length-pairs (omega arith)) (rw length-pairs (omega arith)),
-      ← c .before .before .word-at .ensures,
-      ← c .before .word-at2 .ensures,
-      ne-eqb _ _ (c .if1 .taken),
-    )
-
-add-word-at : tie.Need-add-word-at
-add-word-at c = search needs
-
-word-at-requires-3 : tie.Need-word-at-requires-3
-word-at-requires-3 c κs = search needs
-
-add-word-at-2 : tie.Need-add-word-at-2
-add-word-at-2 c = search needs
-
-word-at-requires-4 : tie.Need-word-at-requires-4
-word-at-requires-4 c κs = search needs
-
-returns-2 : tie.Need-returns-2
-returns-2 c =
-    let args = c .before .before .before .before .before .before .before .before .args in
-    rw (
-      differs-at (words (args .held .now)) (words (args .wanted .now)) (args .i) (rw length-pairs (omega arith)) (rw length-pairs (omega arith)),
-      ← c .before .before .before .before .before .word-at .ensures,
-      ← c .before .before .before .before .word-at2 .ensures,
-      eq-eqb _ _ (c .before .before .before .if1 .left),
-      ← c .before .before .word-at3 .ensures,
-      ← c .before .word-at4 .ensures,
-      ne-eqb _ _ (c .if2 .taken),
-    )
-
-returns-3 : tie.Need-returns-3
-returns-3 c =
-    let args = c .before .before .before .before .before .before .before .before .args in
-    rw (
-      differs-at (words (args .held .now)) (words (args .wanted .now)) (args .i) (rw length-pairs (omega arith)) (rw length-pairs (omega arith)),
-      ← c .before .before .before .before .before .word-at .ensures,
-      ← c .before .before .before .before .word-at2 .ensures,
-      eq-eqb _ _ (c .before .before .before .if1 .left),
-      ← c .before .before .word-at3 .ensures,
-      ← c .before .word-at4 .ensures,
-      eq-eqb _ _ (c .if2 .left),
+      differs-longs (args .held .now) (args .wanted .now) (args .i) (at-start .pre .0) (at-start .pre .1) (λ k. c .before .before .before .shared-slice-known .given k .fits)
+          (λ k. c .before .before .shared-slice-known2 .given k .fits),
+      ← c .before .long-at .ensures,
+      ← c .long-at2 .ensures,
     )
 
 pub differs-at-spec : {M : Type 1} → statement M
-differs-at-spec =
-    tie.close
-    (tie.spec
-    mul-j
-    word-at-requires
-    word-at-requires-2
-    returns
-    add-word-at
-    word-at-requires-3
-    add-word-at-2
-    word-at-requires-4
-    returns-2
-    returns-3)
+differs-at-spec = tie.close (tie.spec long-at-requires long-at-requires-2 returns)

@@ -1,79 +1,89 @@
--- The loop keeps that the room is filled from i on.
-use Prim.Native.Nat.{_*_}
-use mathlib.Core.Path.{_≡_}
+-- The loop keeps what it carries, and that room and choices are filled from i on.
+use mathlib.Core.Path.{_≡_, _∙_}
 use native.Mathlib.Omega.{arith}
-use lib.Dec.{lit<}
 use lib.ListN.{length}
 use Rattle.wire.specs.Tables.{words, longs}
-use Rattle.upload.specs.Sizes.{roomSize}
+use Rattle.tables.proofs.Bytes.{zero-bytes}
 use Rattle.upload.specs.Cost.{differs}
-use Rattle.upload.specs.Internal.{Filling}
 use Rattle.upload.proofs.Differs.{lent-long}
-use Rattle.upload.proofs.Rooms.{fill-start, fill-at, fill-turn, fill-done}
-use Rattle.planner8.proofs.Places.{length-longs, part-even, clear-long, clear-same, clear-longs, lent-words}
+use Rattle.upload.proofs.Rooms.{Measuring, measure-start, measure-small, measure-turn, measure-done}
+use Rattle.upload.proofs.Outcome.{measured}
+use Rattle.planning.specs.Internal.{carriedIn}
+use Rattle.planner8.proofs.Places.{length-longs, zero-longs, map-words, lent-words}
+use borrow.Author.Needs.{needs}
 use Rattle.planner8.proofs.measure.Statement.{statement}
 use Rattle.planner8.proofs.measure.Tie as tie
 
 abbrev Inv-loop : tie.InvT-loop
-Inv-loop held wanted room₀ n i₀ room i = Filling n (differs (words held) (words wanted)) (longs room) i × (length room ≡ 4 * roomSize)
+Inv-loop held wanted room₀ choices₀ n p₀ i₀ room choices p i = Measuring (differs (words held) (words wanted)) (length (longs room₀)) (length choices₀) (carriedIn p) (longs room) choices i
+    × (length room ≡ length room₀)
+    × (length choices ≡ length choices₀)
 
 abbrev μ-loop : tie.MeasureT-loop
-μ-loop held wanted room₀ n i₀ room i = i
-
-mul-fill-bytes : tie.Need-mul-fill-bytes Inv-loop μ-loop
-mul-fill-bytes c = omega arith
-
-sub-fill-bytes : tie.Need-sub-fill-bytes Inv-loop μ-loop
-sub-fill-bytes c = omega arith
-
-part-fill-bytes-start : tie.Need-part-fill-bytes-start Inv-loop μ-loop
-part-fill-bytes-start c = omega arith
-
-part-fill-bytes-end : tie.Need-part-fill-bytes-end Inv-loop μ-loop
-part-fill-bytes-end c = omega arith
+μ-loop held wanted room₀ choices₀ n p₀ i₀ room choices p i = i
 
 fill-bytes-requires : tie.Need-fill-bytes-requires Inv-loop μ-loop
-fill-bytes-requires c κs =
-    let start = c .before .before .before .before in
-    (lit< tt, part-even (start .args .room .now) (start .args .n) (start .pre .1) (start .pre .0 .few))
+fill-bytes-requires c κs = search needs
+
+fill-bytes-requires-2 : tie.Need-fill-bytes-requires-2 Inv-loop μ-loop
+fill-bytes-requires-2 c κs = search needs
+
+at-end-requires : tie.Need-at-end-requires Inv-loop μ-loop
+at-end-requires c κs = search needs
 
 loop-holds : tie.Need-loop-holds Inv-loop μ-loop
 loop-holds c =
-    let at-start = c .before .before .before .before .before .before .before in
+    let at-start = c .before .before .before .before .before .before .before .before .before .before .before .before .before in
     let args = at-start .args in
-    let pre = at-start .pre in
-    let all = lent-long (lent-words (pre .0)) in
-    let room = args .room .now in
-    let zeros = c .before .before .fill-bytes .ensures in (
-      fill-start (longs room) (pre .0 .few) all (omega (arith, length-longs room)) (clear-same room (args .n) (pre .1) (pre .0 .few) zeros) (clear-longs room (args .n) (pre .1) (pre .0 .few) zeros),
-      clear-long room (args .n) (pre .1) (pre .0 .few) zeros,
+    let maps = at-start .pre .0 in (
+      measure-start _ _ (length (longs (args .room .now))) (length (args .choices .now)) (lent-long (lent-words maps)) (c .at-end .ensures) (zero-longs (args .room .now) (omega arith) (c .before .before .before .before .before .before .before .fill-bytes .ensures)) (c .before .before .before .fill-bytes2 .ensures ∙ zero-bytes (args .choices .now) (omega arith)),
+      omega arith,
+      omega arith,
     )
 
 sub-i : tie.Need-sub-i Inv-loop μ-loop
 sub-i c = omega arith
 
-least-at-requires : tie.Need-least-at-requires Inv-loop μ-loop
-least-at-requires c κs =
-    let at-loop = c .before .before in
-    (at-loop .before .before .before .before .before .before .before .before .pre .0, fill-at (omega arith) (at-loop .loop .inv .0))
+differs-at-requires : tie.Need-differs-at-requires Inv-loop μ-loop
+differs-at-requires c κs =
+    let inv = c .before .loop .inv in
+    let all = lent-long (lent-words (c .before .before .before .before .before .before .before .before .before .before .before .before .before .before .before .pre .0)) in
+    omega (arith, inv .0 .within)
 
-put-long-requires : tie.Need-put-long-requires Inv-loop μ-loop
-put-long-requires c κs = omega arith
+choose-requires : tie.Need-choose-requires Inv-loop μ-loop
+choose-requires c κs =
+    let inv = c .before .before .before .loop .inv in
+    let maps = c .before .before .before .before .before .before .before .before .before .before .before .before .before .before .before .before .before .pre .0 in
+    let all = lent-long (lent-words maps) in
+    measure-small (omega (arith, maps .few)) (inv .0)
+
+keep-requires : tie.Need-keep-requires Inv-loop μ-loop
+keep-requires c κs = search needs
 
 loop-less : tie.Need-loop-less Inv-loop μ-loop
 loop-less c = omega arith
 
 loop-again : tie.Need-loop-again Inv-loop μ-loop
 loop-again c =
-    let at-start = c .before .before .before .before .before .before .before .before .before .before .before .before .before .before .before in
-    let maps = lent-words (at-start .pre .0) in
-    (rw (c .before .before .put-long .ensures) (fill-turn (maps .few) (lent-long maps) (omega arith) (c .before .before .before .before .least-at .ensures) (c .before .before .before .before .before .before .before .loop .inv .0)), omega arith)
+    (measure-turn _ (omega arith) (c .before .before .before .before .before .before .before .before .differs-at .ensures) (c .before .before .before .before .before .before .choose .ensures) (c .before .before .keep .ensures) (c .before .before .before .before .before .before .before .before .before .before .loop .inv .0), omega arith, omega arith)
 
 same-length : tie.Need-same-length Inv-loop μ-loop
 same-length c = omega arith
 
+same-length-2 : tie.Need-same-length-2 Inv-loop μ-loop
+same-length-2 c = omega arith
+
 returns : tie.Need-returns Inv-loop μ-loop
-returns c = fill-done (c .loop-test .left) (c .before .loop .inv .0)
+returns c =
+    let at-start = c .before .before .before .before .before .before .before .before .before .before .before .before .before .before .before in
+    let args = at-start .args in
+    let maps = at-start .pre .0 in
+    measured (args .n) (words (args .held .now)) (words (args .wanted .now))
+    (map-words (args .n) (args .held .now) (maps .held-long) (λ k. c .before .before .before .before .before .before .before .before .before .before .before .before .before .before .shared-slice-known .given k .fits))
+    (map-words (args .n) (args .wanted .now) (maps .wanted-long) (λ k. c .before .before .before .before .before .before .before .before .before .before .before .before .before .shared-slice-known2 .given k .fits))
+    (omega (arith, length-longs (c .before .before .before .before .before .before .before .before .before .fill-bytes .last .0), length-longs (args .room .now)))
+    (omega arith)
+    (measure-done (c .loop-test .left) (c .before .loop .inv .0))
 
 pub measure-spec : {M : Type 1} → statement M
 measure-spec =
@@ -81,16 +91,16 @@ measure-spec =
     (tie.spec
     Inv-loop
     μ-loop
-    mul-fill-bytes
-    sub-fill-bytes
-    part-fill-bytes-start
-    part-fill-bytes-end
     fill-bytes-requires
+    fill-bytes-requires-2
+    at-end-requires
     loop-holds
     sub-i
-    least-at-requires
-    put-long-requires
+    differs-at-requires
+    choose-requires
+    keep-requires
     loop-less
     loop-again
     same-length
+    same-length-2
     returns)

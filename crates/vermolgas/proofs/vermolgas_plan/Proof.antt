@@ -9,8 +9,8 @@ use Rattle.vermolgas.specs.Packed.{packedPlan}
 use Rattle.vermolgas.proofs.vermolgas_plan.Statement.{statement}
 use Rattle.vermolgas.proofs.vermolgas_plan.Tie as tie
 
-small : (c : tie.After-struct-known) → (c .before .before .before .before .before .before .before .plan .result .packets ≤ 8032) × (c .before .before .before .before .before .before .before .plan .result .bytes ≤ 8032)
-small c = answer-small (c .before .before .before .before .before .before .before .plan .ensures)
+small : (c : tie.After-struct-known) → (c .before .before .before .before .before .before .before .before .before .plan .result .packets ≤ 8032) × (c .before .before .before .before .before .before .before .before .before .plan .result .bytes ≤ 8032)
+small c = answer-small (c .before .before .before .before .before .before .before .before .before .plan .ensures)
 
 plan-requires : tie.Need-plan-requires
 plan-requires c κs = search needs
@@ -39,10 +39,13 @@ same-length-2 c = search needs
 same-length-3 : tie.Need-same-length-3
 same-length-3 c = search needs
 
+same-length-4 : tie.Need-same-length-4
+same-length-4 c = search needs
+
 returns : tie.Need-returns
 returns c =
-    let a = c .before .before .before .before .before .before .before .plan .result in
-    let told = c .before .before .before .before .before .before .before .plan .ensures in
+    let a = c .before .before .before .before .before .before .before .before .before .plan .result in
+    let told = c .before .before .before .before .before .before .before .before .before .plan .ensures in
     let s = small c in
     let packets : (a .status + 256 * a .packets + 4294967296 * a .bytes) / 256 % 16777216 ≡ a .packets = omega (arith, s) in
     let bytes : (a .status + 256 * a .packets + 4294967296 * a .bytes) / 4294967296 ≡ a .bytes = omega (arith, s) in
@@ -66,4 +69,5 @@ vermolgas-plan-spec =
     same-length
     same-length-2
     same-length-3
+    same-length-4
     returns)
