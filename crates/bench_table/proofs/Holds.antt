@@ -7,7 +7,8 @@ use lib.Dec.{T, eqb, eqb→eq}
 use Rattle.wire.specs.Checksum.{checksum}
 use Rattle.wire.specs.Buffers.{over}
 use Rattle.opcode.proofs.Table.{and-left, and-right}
-use Rattle.opcode.specs.Fields.{fault, wordsAt, riseFrom, rise, firstLarge}
+use Rattle.runs.specs.Gains.{firstLarge}
+use Rattle.opcode.specs.Fields.{fault, wordsAt, riseFrom, rise}
 use Rattle.opcode.specs.Commands.{commandOf}
 use Rattle.opcode.specs.Judgement.{judgement, pointsSizeWrong, gainsSizeWrong, controlSizeWrong, smoothSizeWrong, sizeWrong}
 use Rattle.opcode.specs.Judgement.{gainsFault, listsFault, controlFault, smoothFault, valueFault}

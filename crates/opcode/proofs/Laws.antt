@@ -7,17 +7,17 @@ use native.Mathlib.Decide.{decLt}
 use native.Mathlib.Nat.{mul-le-mul-left}
 use native.Mathlib.Numerals.{add-one}
 use native.Mathlib.Omega.{arith}
-use borrow.Author.Tests.{lt-ltb, le-ltb, le-leb, lt-leb}
+use borrow.Author.Tests.{lt-ltb, le-ltb}
 use lib.ListN.{length, getD, drop, drop-of-length-le}
 use lib.Seq.{drop-cons}
 use Rattle.wire.specs.Numbers.{wordAt}
 use Rattle.opcode.specs.declared.Field.{Field}
-use Rattle.opcode.specs.Fields.{span, fault, takes, number, wordsAt, rise, riseFrom, firstLarge}
+use Rattle.opcode.specs.Fields.{span, fault, takes, number, wordsAt, rise, riseFrom}
 use Rattle.opcode.specs.Internal.{sent}
 use Rattle.opcode.proofs.Accepts.Fields.{least}
 use Rattle.opcode.proofs.Accepts.Commands.{asks-sized, sets-sized}
 
--- Words, from the i-th on: all of them, one that is passed, and the end. Then how far they are in range (rule 5.8), and how far
+-- Words, from the i-th on: all of them, one that is passed, and the end. Then how far
 -- they rise (rule 5.5).
 module _ (s : List ℕ) (at count : ℕ) where
   pub words-start : wordsAt s (at + 2 * 0) (count - 0) ≡ wordsAt s at count
@@ -38,19 +38,6 @@ module _ (s : List ℕ) (at count : ℕ) where
     pub words-done : count ≤ i → wordsAt s (at + 2 * i) (count - i) ≡ []
     unfolding wordsAt
     words-done h = let left : count - i ≡ 0 = omega arith in rw left
-
-    pub gains-turn : i < count → wordAt s (at + 2 * i) ≤ 8191
-        → firstLarge (wordsAt s (at + 2 * i) (count - i)) ≡ suc (firstLarge (wordsAt s (at + 2 * (i + 1)) (count - (i + 1))))
-    unfolding firstLarge
-    gains-turn h w = rw (words-turn h, le-leb _ _ w)
-
-    pub gains-stop : i < count → 8191 < wordAt s (at + 2 * i) → firstLarge (wordsAt s (at + 2 * i) (count - i)) ≡ 0
-    unfolding firstLarge
-    gains-stop h w = rw (words-turn h, lt-leb _ _ w)
-
-    pub gains-done : count ≤ i → firstLarge (wordsAt s (at + 2 * i) (count - i)) ≡ 0
-    unfolding firstLarge
-    gains-done h = rw (words-done h)
 
     pub rise-turn : (last : ℕ) → i < count → last < wordAt s (at + 2 * i)
         → riseFrom last (wordsAt s (at + 2 * i) (count - i))

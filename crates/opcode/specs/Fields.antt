@@ -54,8 +54,3 @@ unfoldable pub rise : List ℕ → ℕ
 unfolding riseFrom
 rise [] = 0
 rise (w ∷ ws) = suc (riseFrom w ws)
-
--- Rule 5.8: the index of the first number above 8,191, the list's length for none.
-unfoldable pub firstLarge : List ℕ → ℕ
-firstLarge [] = 0
-firstLarge (w ∷ ws) = cond (leb w 8191) (suc (firstLarge ws)) 0

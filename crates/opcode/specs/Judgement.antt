@@ -2,11 +2,13 @@
 use Prim.Native.Nat.{ℕ, _+_, _*_, _%_}
 use mathlib.Core.Bool.{Bool, false, cond, not, _&&_, _||_}
 use mathlib.Core.List.{List, [], _∷_}
-use lib.ListN.{length}
+use lib.ListN.{length, drop}
 use lib.Dec.{eqb, leb, ltb}
 use Rattle.wire.specs.Numbers.{byteAt, wordAt}
+use Rattle.wire.specs.Tables.{words}
+use Rattle.runs.specs.Gains.{firstLarge}
 use Rattle.opcode.specs.Options.{hasLength, isRead}
-use Rattle.opcode.specs.Fields.{fault, wordsAt, rise, firstLarge}
+use Rattle.opcode.specs.Fields.{fault, wordsAt, rise}
 use Rattle.opcode.specs.Commands.{commandOf, notCarried, variable}
 
 -- Rule 4.1, 7: the opcode is not carried. No opcode over 255 is on the list.
@@ -56,7 +58,7 @@ sizeWrong op o d =
 unfoldable pub gainsFault : List ℕ → ℕ
 gainsFault d =
     cond (ltb (fault (commandOf 0x2B .sets) d 0) 6) (fault (commandOf 0x2B .sets) d 0)
-    (cond (eqb (byteAt d 0) 1) (length d) (6 + 2 * firstLarge (wordsAt d 6 (wordAt d 2))))
+    (cond (eqb (byteAt d 0) 1) (length d) (6 + 2 * firstLarge (words (drop 6 d))))
 
 -- Rule 5.5: in a 35h write of mode 1, where the 62 numbers or the 32 do not rise.
 unfoldable pub listsFault : List ℕ → ℕ

@@ -4,7 +4,6 @@ use super::bits;
 use super::fields::fault;
 use super::limits::MOST_COLUMNS;
 use super::limits::MOST_ROWS;
-use super::lists::first_large;
 use super::lists::rise;
 use super::opcodes::NOT_CARRIED;
 use super::opcodes::VARIABLE;
@@ -176,7 +175,7 @@ fn gains_fault(data: &[u8]) -> usize
     if wire::byte(data, 0) == 1 {
         return data.len();
     }
-    GAINS_HEAD + 2 * first_large(data, GAINS_HEAD, wire::word(data, 2))
+    GAINS_HEAD + 2 * runs::bytes::first_large(data, GAINS_HEAD)
 }
 
 // 35h: in mode 1 the lists, else the fields.

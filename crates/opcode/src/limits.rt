@@ -1,12 +1,10 @@
-// The ends of ranges (rules 5.1, 5.5, 5.7 and 5.8), which stored settings share with the fields of packets. A range from 0
+// The ends of ranges (rules 5.1, 5.5 and 5.7), which stored settings share with the fields of packets. A range from 0
 // has its end alone.
 pub const MOST_DISPLAY: usize = 4;
 
 pub const MOST_COLOUR: usize = 8;
 
 pub const MOST_FLIP: usize = 3;
-
-pub const MOST_GAIN: usize = 8191;
 
 pub const LEAST_SHAPE: usize = 2;
 

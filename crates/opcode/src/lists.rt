@@ -1,8 +1,7 @@
-// Lists of 16-bit numbers in a command's data: the index of the first at fault.
-use super::limits::MOST_GAIN;
+// A list of 16-bit numbers in a command's data: the index of the first that does not rise.
 ghost use mathlib.Core.Path.{_≡_};
 ghost use Prim.Native.Nat.{_≤_};
-ghost use Rattle.opcode.specs.Fields.{wordsAt, «rise», firstLarge};
+ghost use Rattle.opcode.specs.Fields.{wordsAt, «rise»};
 
 // The index of the first of count numbers from a place on that is not above the one before it, count for none.
 pub(crate) fn rise(s: &[u8], at: usize, count: usize) -> usize
@@ -20,21 +19,6 @@ pub(crate) fn rise(s: &[u8], at: usize, count: usize) -> usize
             return i;
         }
         last = w;
-        i += 1;
-    }
-    count
-}
-
-// The index of the first of count gains from a place on that is above the highest, count for none.
-pub(crate) fn first_large(s: &[u8], at: usize, count: usize) -> usize
-    requires { ⌜ (at ≤ 65536) × (count ≤ 65536) ⌝ }
-    ensures { λ r. ⌜ (r ≡ firstLarge (wordsAt (now (s .entry)) at count)) × (r ≤ count) ⌝ }
-{
-    let mut i = 0;
-    while i < count {
-        if MOST_GAIN < wire::word(s, at + 2 * i) {
-            return i;
-        }
         i += 1;
     }
     count

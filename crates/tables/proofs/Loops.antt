@@ -7,13 +7,13 @@ use native.Mathlib.Nat.{zero-add}
 use native.Mathlib.Numerals.{add-one}
 use native.Mathlib.Omega.{arith}
 use lib.ListN.{length, take, drop, getD, set, length-take, length-drop, drop-of-length-le}
-use lib.Seq.{sets, take-length, getD-drop}
+use lib.Seq.{sets, take-length}
 use Rattle.wire.specs.Buffers.{over}
-use Rattle.wire.specs.Numbers.{wordAt, wordBytes}
-use Rattle.wire.specs.Tables.{words, bytes}
+use Rattle.wire.specs.Numbers.{wordBytes}
+use Rattle.wire.specs.Tables.{bytes}
 use Rattle.wire.proofs.Laws as laws
 use Rattle.wire.proofs.Laws.{Copying}
-use Rattle.wire.proofs.Tables.{length-halves, word-at}
+use Rattle.wire.proofs.Tables.{length-halves}
 
 -- The first i elements of s stand over the start of d₀.
 abbrev pub Begun : List ℕ → List ℕ → List ℕ → ℕ → Type 0
@@ -53,9 +53,3 @@ turn-word l {d₀} {d} {i} {v} hd h e r =
 -- A part that is there is as long as it says.
 pub part-long : (l : List ℕ) (from n : ℕ) → from + n ≤ length l → length (take n (drop from l)) ≡ n
 part-long l from n h = simp (length-take, length-drop) (omega arith)
-
--- A number is made of the two bytes at its place.
-pub number-at : (src : List ℕ) (from i : ℕ) → from + 2 * i + 1 < length src → wordAt src (from + 2 * i) ≡ getD (words (drop from src)) i 0
-number-at src from i h =
-    let e : from + 2 * i + 1 ≡ from + (2 * i + 1) = omega arith in
-    rw e (simp getD-drop at (word-at (drop from src) i (rw length-drop (omega arith))))

@@ -5,8 +5,8 @@ use mathlib.Core.Path.{_≡_, refl, sym}
 use mathlib.Core.List.{List, [], _∷_, _++_}
 use native.Mathlib.Nat.{zero-add, mul-pos, mod-add-div, mod-lt, mod-eq-of-lt, div-eq-of-lt, add-mul-mod-self-left, add-mul-div-left, div-lt-iff-lt-mul, mul-le-mul-left}
 use native.Mathlib.Omega.{arith}
-use lib.ListN.{length, take, drop, getD, set}
-use lib.Seq.{take-nil, drop-nil, sets, paste}
+use lib.ListN.{length, take, drop, getD, set, length-drop}
+use lib.Seq.{take-nil, drop-nil, getD-drop, sets, paste}
 use Rattle.wire.specs.Numbers.{wordAt, longAt}
 use Rattle.wire.specs.Buffers.{over}
 use Rattle.wire.specs.Tables.{pairs, halves, words, longs, longBytes}
@@ -120,6 +120,12 @@ pair-at b (x ∷ y ∷ s) (suc i) h =
 
 pub word-at : (s : List ℕ) (i : ℕ) → 2 * i + 1 < length s → wordAt s (2 * i) ≡ getD (words s) i 0
 word-at s i h = pair-at 256 s i h
+
+-- A number from a place on is made of the two bytes there.
+pub number-at : (s : List ℕ) (from i : ℕ) → from + 2 * i + 1 < length s → wordAt s (from + 2 * i) ≡ getD (words (drop from s)) i 0
+number-at s from i h =
+    let e : from + 2 * i + 1 ≡ from + (2 * i + 1) = omega arith in
+    rw e (simp getD-drop at (word-at (drop from s) i (rw length-drop (omega arith))))
 
 pub long-at : (s : List ℕ) (i : ℕ) → 4 * i + 3 < length s → longAt s (4 * i) ≡ getD (longs s) i 0
 long-at s i h =

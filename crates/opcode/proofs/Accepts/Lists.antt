@@ -1,16 +1,16 @@
--- Data as its bytes one by one, its 16-bit numbers as a table's, and the two tests on lists of numbers: the index of the first number at
--- fault is the list's length exactly if none is.
+-- Data as its bytes one by one, its 16-bit numbers as a table's, and the test on a list that rises: the index of the first
+-- number at fault is the list's length exactly if none is.
 use Prim.Native.Nat.{ℕ, zero, suc, _+_, _*_, _≤_}
 use mathlib.Core.Path.{_≡_, refl, ap, _∙_}
 use mathlib.Core.List.{List, [], _∷_, _++_, append-nil}
-use native.Mathlib.Decide.{decLe, decLt}
+use native.Mathlib.Decide.{decLt}
 use native.Mathlib.Numerals.{add-one, add-two}
 use native.Mathlib.Omega.{arith}
 use lib.ListN.{length, take, drop, getD, length-drop, drop-of-length-le}
 use lib.Seq.{drop-cons, take-all}
-use borrow.Author.Tests.{lt-ltb, le-ltb, le-leb, lt-leb}
+use borrow.Author.Tests.{lt-ltb, le-ltb}
 use Rattle.wire.specs.Tables.{words}
-use Rattle.opcode.specs.Fields.{wordsAt, riseFrom, rise, firstLarge}
+use Rattle.opcode.specs.Fields.{wordsAt, riseFrom, rise}
 use Rattle.opcode.specs.Allowed.{Rising, empty, single, next}
 
 -- The n elements from a place on.
@@ -82,20 +82,3 @@ pub rise-rising : (ws : List ℕ) → length ws ≤ rise ws → Rising ws
 unfolding rise
 rise-rising [] h = empty
 rise-rising (w ∷ ws) h = rising-from w ws (omega arith)
-
--- Not above 8191.
-pub small-gains : (ws : List ℕ) → ((k : ℕ) → getD ws k 0 ≤ 8191) → firstLarge ws ≡ length ws
-unfolding firstLarge
-small-gains [] h = refl
-small-gains (w ∷ ws) h = rw (le-leb w 8191 (h 0)) (ap suc (small-gains ws (λ k. h (suc k))))
-
-first-small : (w : ℕ) (ws : List ℕ) → length (w ∷ ws) ≤ firstLarge (w ∷ ws) → (w ≤ 8191) × (length ws ≤ firstLarge ws)
-unfolding firstLarge
-first-small w ws h =
-    elim (decLe w 8191)
-    [ yes l ↦ (l, omega (arith, rw (le-leb w 8191 l) at h)) | no l ↦ absurd (omega (arith, rw (lt-leb w 8191 (omega arith)) at h)) ]
-
-pub gains-small : (ws : List ℕ) → length ws ≤ firstLarge ws → (k : ℕ) → getD ws k 0 ≤ 8191
-gains-small [] h k = omega arith
-gains-small (w ∷ ws) h zero = first-small w ws h .0
-gains-small (w ∷ ws) h (suc k) = gains-small ws (first-small w ws h .1) k

@@ -11,13 +11,16 @@ use lib.Dec.{eqb, ltb}
 use borrow.Author.Tests.{ltb-false, eqb-false, lt-ltb, le-ltb, le-leb, eq-eqb, ne-eqb}
 use Rattle.wire.specs.Numbers.{byteAt, wordAt}
 use Rattle.wire.specs.Tables.{words}
-use Rattle.opcode.specs.Fields.{word, fault, wordsAt, rise, firstLarge}
+use Rattle.opcode.specs.Fields.{word, fault, wordsAt, rise}
 use Rattle.opcode.specs.Commands.{commandOf, flag}
 use Rattle.opcode.specs.Judgement.{pointsSizeWrong, smoothSizeWrong, smoothFault, gainsSizeWrong, gainsFault, controlSizeWrong, controlFault, listsFault}
 use Rattle.opcode.specs.Allowed.{WriteData, points, smooth, shape, lists, Rising}
+use Rattle.runs.specs.Gains.{firstLarge}
 use Rattle.wire.proofs.Tests.{told}
+use Rattle.wire.proofs.Tables.{length-pairs}
+use Rattle.runs.proofs.Right.{small-gains, gains-small}
 use Rattle.opcode.proofs.Accepts.Fields.{All, Right, right-value, tests-right, all-fault, fault-all, fault-here}
-use Rattle.opcode.proofs.Accepts.Lists.{headed, exactly, words-part, words-rest, length-wordsAt, rising-rise, rise-rising, small-gains, gains-small}
+use Rattle.opcode.proofs.Accepts.Lists.{headed, exactly, words-part, words-rest, length-wordsAt, rising-rise, rise-rising}
 use Rattle.opcode.proofs.Accepts.Passes.{Passes}
 
 -- 34h.
@@ -71,13 +74,16 @@ smooth-passes d a e =
       namedOnly = refl;
     }
 
--- 2Bh.
+-- 2Bh: as many words as the count says.
+words-long : (d : List ℕ) → length d ≡ 6 + 2 * wordAt d 2 → length (words (drop 6 d)) ≡ wordAt d 2
+words-long d e = rw (length-pairs, length-drop) (omega arith)
+
 pub passes-gains : (d : List ℕ) → Passes 0x2B d → WriteData 0x2B d
 unfolding commandOf gainsSizeWrong gainsFault
 passes-gains d p =
     let head = fault (commandOf 0x2B .sets) d 0 in
     let count = wordAt d 2 in
-    let gains = wordsAt d 6 count in
+    let gains = words (drop 6 d) in
     let size : gainsSizeWrong d ≡ false = p .size in
     let long : 6 ≤ length d = search told in
     let whole : length d ≡ 6 + 2 * count = search told in
@@ -85,8 +91,7 @@ passes-gains d p =
     let values : All (commandOf 0x2B .sets) d 0 = fault-all (commandOf 0x2B .sets) (omega arith) d 0 behind in
     let plain : byteAt d 0 ≡ 0 = omega (arith, eqb-false (byteAt d 0) 1 (p .namedOnly)) in
     let words-size = ltb-false (6 + 2 * firstLarge gains) (length d) (rw (le-ltb head 6 behind, p .namedOnly) at (p .value)) in
-    let small : (k : ℕ) → getD (words (drop 6 d)) k 0 ≤ 8191 =
-    rw (← words-rest count d 6 whole) (gains-small gains (omega (arith, length-wordsAt count d 6))) in
+    let small : (k : ℕ) → getD gains k 0 ≤ 8191 = gains-small gains (omega (arith, words-long d whole)) in
     let rest : length (drop 6 d) ≡ 2 * count = rw length-drop (omega arith) in
     rw (headed d 6 long, plain) (search (WriteData.gains, arith))
 
@@ -94,13 +99,12 @@ pub gains-passes : (d : List ℕ) → All (commandOf 0x2B .sets) d 0 → byteAt 
     → ((k : ℕ) → getD (words (drop 6 d)) k 0 ≤ 8191) → Passes 0x2B d
 unfolding commandOf gainsSizeWrong gainsFault
 gains-passes d a z e h =
-    let count = wordAt d 2 in
-    let gains = wordsAt d 6 count in
+    let gains = words (drop 6 d) in
     let behind : fault (commandOf 0x2B .sets) d 0 ≡ 6 = all-fault (commandOf 0x2B .sets) d 0 a in
-    let small : firstLarge gains ≡ length gains = small-gains gains (rw (words-rest count d 6 e) h) in
+    let small : firstLarge gains ≡ length gains = small-gains gains h in
     record {
-      size = rw (le-leb 6 (length d) (omega arith), eq-eqb (length d) (6 + 2 * count) e);
-      value = rw (behind, z) (le-ltb (6 + 2 * firstLarge gains) (length d) (omega (arith, length-wordsAt count d 6)));
+      size = rw (le-leb 6 (length d) (omega arith), eq-eqb (length d) (6 + 2 * wordAt d 2) e);
+      value = rw (behind, z) (le-ltb (6 + 2 * firstLarge gains) (length d) (omega (arith, words-long d e)));
       namedOnly = rw z;
     }
 

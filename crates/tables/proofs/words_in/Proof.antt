@@ -5,8 +5,7 @@ use native.Mathlib.Omega.{arith}
 use lib.ListN.{drop, length-drop}
 use Rattle.wire.specs.Tables.{words}
 use Rattle.wire.proofs.Laws.{Copying, start, turn, done}
-use Rattle.wire.proofs.Tables.{length-pairs}
-use Rattle.tables.proofs.Loops.{number-at}
+use Rattle.wire.proofs.Tables.{length-pairs, number-at}
 use Rattle.tables.proofs.words_in.Statement.{statement}
 use Rattle.tables.proofs.words_in.Tie as tie
 

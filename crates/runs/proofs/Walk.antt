@@ -1,0 +1,83 @@
+-- What the loops keep: gains are passed one at a time, pairs two words at a time. ws are all words, i is how many are passed.
+use Prim.Native.Nat.{ℕ, suc, _+_, _*_, _≤_, _<_}
+use mathlib.Core.Path.{_≡_, refl}
+use mathlib.Core.Bool.{true, false}
+use mathlib.Core.List.{List, [], _∷_}
+use native.Mathlib.Numerals.{add-one, add-two}
+use native.Mathlib.Omega.{arith}
+use borrow.Author.Tests.{le-leb, lt-leb}
+use lib.ListN.{length, getD, drop, length-drop, drop-of-length-le}
+use lib.Seq.{drop-cons}
+use Rattle.wire.specs.Numbers.{wordAt}
+use Rattle.wire.specs.Tables.{words}
+use Rattle.wire.proofs.Tables.{length-pairs, number-at}
+use Rattle.runs.specs.Gains.{firstLarge}
+use Rattle.runs.specs.Pairs.{expand, sumRuns, pairFault, runWrong}
+
+-- What a list of one word, or of none, gives.
+alone-fault : (ws : List ℕ) → length ws ≤ 1 → pairFault ws ≡ 0
+unfolding pairFault
+alone-fault [] h = refl
+alone-fault (w ∷ []) h = refl
+alone-fault (w ∷ v ∷ ws) h = absurd (omega arith)
+
+alone-sum : (ws : List ℕ) → length ws ≤ 1 → sumRuns ws ≡ 0
+unfolding sumRuns
+alone-sum [] h = refl
+alone-sum (w ∷ []) h = refl
+alone-sum (w ∷ v ∷ ws) h = absurd (omega arith)
+
+module _ (ws : List ℕ) (i : ℕ) where
+  pub large-turn : i < length ws → getD ws i 0 ≤ 8191 → firstLarge (drop i ws) ≡ suc (firstLarge (drop (i + 1) ws))
+  unfolding firstLarge
+  large-turn h w = rw (drop-cons ws i 0 h, le-leb _ _ w, add-one i)
+
+  pub large-stop : i < length ws → 8191 < getD ws i 0 → firstLarge (drop i ws) ≡ 0
+  unfolding firstLarge
+  large-stop h w = rw (drop-cons ws i 0 h, lt-leb _ _ w)
+
+  pub large-done : length ws ≤ i → firstLarge (drop i ws) ≡ 0
+  unfolding firstLarge
+  large-done h = rw (drop-of-length-le ws {i = i} h)
+
+  -- A pair, and the words behind it.
+  module _ (h : i + 1 < length ws) where
+    pub pair-turn : drop i ws ≡ getD ws i 0 ∷ getD ws (i + 1) 0 ∷ drop (i + 2) ws
+    pair-turn = rw (drop-cons ws i 0 (omega arith), drop-cons ws (suc i) 0 (omega arith), add-one i, add-two i)
+
+    -- Its run and its gain, as the code has them.
+    module _ {run gain : ℕ} (r : run ≡ getD ws i 0) (g : gain ≡ getD ws (i + 1) 0) where
+      pub fault-gain : runWrong run ≡ false → 8191 < gain → pairFault (drop i ws) ≡ 1
+      unfolding pairFault
+      fault-gain e w = rw (pair-turn, ← r, ← g, e, lt-leb _ _ w)
+
+      pub fault-turn : runWrong run ≡ false → gain ≤ 8191 → pairFault (drop i ws) ≡ suc (suc (pairFault (drop (i + 2) ws)))
+      unfolding pairFault
+      fault-turn e w = rw (pair-turn, ← r, ← g, e, le-leb _ _ w)
+
+    pub fault-run : {run : ℕ} → run ≡ getD ws i 0 → runWrong run ≡ true → pairFault (drop i ws) ≡ 0
+    unfolding pairFault
+    fault-run r e = rw (pair-turn, ← r, e)
+
+    pub sum-turn : sumRuns (drop i ws) ≡ getD ws i 0 + sumRuns (drop (i + 2) ws)
+    unfolding sumRuns
+    sum-turn = rw pair-turn
+
+  -- The end: no pair is left.
+  module _ (h : length ws ≤ i + 1) where
+    pub fault-done : pairFault (drop i ws) ≡ 0
+    fault-done = alone-fault (drop i ws) (rw length-drop (omega arith))
+
+    pub sum-done : sumRuns (drop i ws) ≡ 0
+    sum-done = alone-sum (drop i ws) (rw length-drop (omega arith))
+
+-- Words as bytes from a place on: how many they are.
+pub words-count : (s : List ℕ) (at n : ℕ) → at + 2 * n ≤ length s → n ≤ length (words (drop at s))
+words-count s at n h = rw (length-pairs, length-drop) (omega arith)
+
+pub words-few : (s : List ℕ) (at n : ℕ) → length s ≤ at + 2 * n + 1 → length (words (drop at s)) ≤ n
+words-few s at n h = rw (length-pairs, length-drop) (omega arith)
+
+-- The word behind the i-th, where the code reads it.
+pub second-at : (s : List ℕ) (at i : ℕ) → at + 2 * i + 3 < length s → wordAt s (at + 2 * i + 2) ≡ getD (words (drop at s)) (i + 1) 0
+second-at s at i h = let e : at + 2 * i + 2 ≡ at + 2 * (i + 1) = omega arith in rw e (number-at s at (i + 1) (omega arith))
