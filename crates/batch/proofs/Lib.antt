@@ -1,4 +1,5 @@
 pub mod Behind
+pub mod Chain
 pub mod Family
 pub mod Lent
 pub mod Packet

@@ -1,46 +1,37 @@
 -- What a packet's stores make of a buffer.
-use Prim.Native.Nat.{ℕ, _+_, _-_, _*_, _/_, _%_, _≤_}
-use mathlib.Core.Path.{_≡_, refl, sym, _∙_}
+use Prim.Native.Nat.{ℕ, _+_, _-_, _*_, _/_, _≤_}
+use mathlib.Core.Path.{_≡_, sym, ap, _∙_}
 use mathlib.Core.List.{List, _++_, append-assoc, append-nil}
 use native.Mathlib.Omega.{arith}
-use lib.ListN.{length, take, drop, drop-of-length-le, length-take, length-drop}
+use lib.ListN.{length, take, drop, drop-of-length-le, length-take, length-drop, length-append}
+use denote.Ref.{RefT, at-last}
 use lib.Seq.{take-all, drop-drop, sets, sets-eq, paste}
 use Rattle.wire.specs.Numbers.{wordBytes}
 use Rattle.wire.specs.Buffers.{over}
-use Rattle.wire.specs.Tables.{words, bytes}
-use Rattle.packet.proofs.Stores.{sets-sets}
+use Rattle.wire.specs.Tables.{words}
+use Rattle.wire.proofs.Laws.{sets-append}
+use Rattle.wire.proofs.Tables.{length-pairs, length-halves}
 use Rattle.tables.proofs.Bytes.{Below, bytes-part}
+use Rattle.tables.proofs.Loops.{part-long}
 use Rattle.upload.specs.Plan.{packetFor}
 use Rattle.upload.specs.Parts.{part, Fits}
 use Rattle.upload.proofs.Bytes.{packet-form}
-use Rattle.wire.proofs.Tables.{length-pairs}
-use Rattle.batch.specs.Writing.{Lies}
-use Rattle.batch.specs.Internal.{headOf}
+use Rattle.batch.specs.Writing.{Lies, PacketPut}
+use Rattle.batch.specs.Internal.{Put, opened, behind, headOf, partBytes}
+use Rattle.batch.specs.declared.Batch.{Batch}
 
--- The head's three numbers.
-pub head-stores : (l : List ℕ) (at start count : ℕ) {b₁ b₂ b₃ : List ℕ} → b₁ ≡ sets l at (wordBytes 0x3414) → b₂ ≡ sets b₁ (at + 2) (wordBytes (2 + 4 * count))
-    → b₃ ≡ sets b₂ (at + 4) (wordBytes start) → b₃ ≡ sets l at (headOf start count)
-head-stores l at start count e₁ e₂ e₃ =
-    rw (
-      e₃,
-      e₂,
-      e₁,
-      sets-sets l at (at + 2) (wordBytes 0x3414) (wordBytes (2 + 4 * count)) refl,
-      sets-sets l at (at + 4) (wordBytes 0x3414 ++ wordBytes (2 + 4 * count)) (wordBytes start) refl,
-    )
+-- Bytes behind what is filled, and bytes behind those, are both behind it.
+pub behind-behind : (b : Batch) (s t : List ℕ) → behind (behind b s) t ≡ behind b (s ++ t)
+behind-behind b s t =
+    let more : b .filled + length s + length t ≡ b .filled + length (s ++ t) = omega (arith, length-append s t) in
+    λ i. opened (at-last (b .buffer) (sets-append (b .buffer .now) (b .filled) s t i)) (more i)
 
--- Head and points are the packet.
-pub packet-written : (w : List ℕ) (start count : ℕ) → length w % 2 ≡ 0 → 1 ≤ count → count ≤ 126 → 2 * (start + count) ≤ length w → (l : List ℕ) (at : ℕ)
-    → sets (sets l at (headOf start count)) (at + 6) (bytes (take (2 * count) (drop (2 * start) w))) ≡ sets l at (packetFor w (part start count))
-packet-written w start count even some few within l at =
-    let fits : Fits (length w / 2) (part start count) = record { some = some; few = few; within = omega arith } in
-    rw (
-      sets-sets l at (at + 6) (headOf start count) (bytes (take (2 * count) (drop (2 * start) w))) refl,
-      packet-form (length w / 2) w (part start count) (omega arith) fits,
-    )
+-- What is behind it stands there.
+pub written : (b : Batch) {c : Batch} {s t : List ℕ} → c ≡ behind b s → s ≡ t → Put (b .buffer .now) (b .filled) t (c .filled) (c .buffer .now)
+written b {c} {s} {t} e f = (ap (λ (d : Batch). d .filled) e ∙ rw f, ap (λ (d : Batch). d .buffer .now) e ∙ rw f)
 
 -- A list over the start of the part of a buffer from a place on is a run of stores.
-pub part-over : (l s : List ℕ) (at : ℕ) → at + length s ≤ length l
+part-over : (l s : List ℕ) (at : ℕ) → at + length s ≤ length l
     → take at l ++ (over s (take (length l - at) (drop at l)) ++ drop (length l - at) (drop at l)) ≡ sets l at s
 unfolding over
 part-over l s at h =
@@ -53,18 +44,45 @@ part-over l s at h =
       append-assoc,
     )
 
--- Points copied as bytes.
-pub copy-points : (w : List ℕ) → length w % 4 ≡ 0 → Below 256 w → (start count : ℕ) → 4 * (start + count) ≤ length w
-    → (l : List ℕ) (at : ℕ) → at + 4 * count ≤ length l
-    → paste l at (drop (4 * start) w) (4 * count) ≡ sets l at (bytes (take (2 * count) (drop (2 * start) (words w))))
-copy-points w even small start count h l at room =
-    let s : 2 * (2 * start) ≡ 4 * start = omega arith in
-    let c : 2 * (2 * count) ≡ 4 * count = omega arith in
-    let pts : List ℕ = take (4 * count) (drop (4 * start) w) in
-    let long : length pts ≡ 4 * count = simp (length-take, length-drop) (omega arith) in
-    rw (bytes-part w (omega arith) small (2 * start) (2 * count), s, c)
-    (sym (sets-eq pts l at (omega arith) ∙ rw long))
+-- A part of a list, as numbers: two bytes each.
+pub long-part : (list : List ℕ) (from n : ℕ) → from + n ≤ length list → length (partBytes list from n) ≡ 2 * n
+long-part list from n h = omega (arith, length-halves 256 (take n (drop from list)), part-long list from n h)
+
+-- Numbers written as bytes, and bytes copied, are such a part.
+module _ (l : List ℕ) (at : ℕ) (list : List ℕ) (from n : ℕ) (room : at + 2 * n ≤ length l) where
+  pub numbers-put : from + n ≤ length list
+      → Put l at (partBytes list from n) (at + 2 * n)
+      (take at l ++ (over (partBytes list from n) (take (length l - at) (drop at l)) ++ drop (length l - at) (drop at l)))
+  numbers-put h =
+      let long = long-part list from n h in
+      (omega arith, part-over l (partBytes list from n) at (omega arith))
+
+  pub bytes-put : Lies 2 list (from + n) → Below 256 list
+      → Put l at (partBytes (words list) from n) (at + 2 * n) (paste l at (drop (2 * from) list) (2 * n))
+  bytes-put h small =
+      let long = long-part (words list) from n (rw length-pairs (omega (arith, h .0))) in
+      let pts : List ℕ = take (2 * n) (drop (2 * from) list) in
+      let wide : length pts ≡ 2 * n = simp (length-take, length-drop) (omega (arith, h .0)) in
+      (omega arith, rw (bytes-part list (h .1) small from n) (sym (sets-eq pts l at (omega arith) ∙ rw wide)))
 
 -- Points that lie in a map's bytes lie in its numbers.
-pub byte-lies : (map : List ℕ) (m : ℕ) → Lies 4 map m → (2 * m ≤ length (words map)) × (length (words map) % 2 ≡ 0)
-byte-lies map m h = (rw length-pairs (omega (arith, h .0, h .1)), rw length-pairs (omega (arith, h .1)))
+pub number-lies : (map : List ℕ) (m : ℕ) → Lies 2 map m → Lies 1 map (2 * m) × Lies 2 map m
+number-lies map m h = ((omega (arith, h .0), omega arith), h)
+
+pub byte-lies : (map : List ℕ) (m : ℕ) → Lies 4 map m → Lies 2 map (2 * m) × Lies 2 (words map) m
+byte-lies map m h = (
+  (omega (arith, h .0), omega (arith, h .1)),
+  (rw length-pairs (omega (arith, h .0, h .1)), rw length-pairs (omega (arith, h .1))),
+)
+
+-- Head, start and points are the packet.
+pub packet-put : (x : RefT (List ℕ)) (filled : ℕ) (map : List ℕ) (start count : ℕ) → Lies 2 map (start + count) → 1 ≤ count → count ≤ 126
+    → (let b : Batch = behind (behind (behind (opened x filled) (headOf 0x34 (2 + 4 * count))) (wordBytes start)) (partBytes map (2 * start) (2 * count)) in
+    PacketPut (x .now) filled map start count (b .filled) (b .buffer .now))
+packet-put x filled map start count lies some few =
+    let fits : Fits (length map / 2) (part start count) = record { some = some; few = few; within = omega (arith, lies .0) } in
+    let points : List ℕ = partBytes map (2 * start) (2 * count) in
+    let front : List ℕ = headOf 0x34 (2 + 4 * count) in
+    let same : front ++ (wordBytes start ++ points) ≡ packetFor map (part start count) = rw (packet-form (length map / 2) map (part start count) (omega (arith, lies .1)) fits) in
+    let put = written (opened x filled) (behind-behind (behind (opened x filled) front) (wordBytes start) points ∙ behind-behind (opened x filled) front (wordBytes start ++ points)) same in
+    (omega (arith, put .0, ap length same, long-part map (2 * start) (2 * count) (omega (arith, lies .0))), put .1)

@@ -4,44 +4,41 @@ use mathlib.Core.Path.{_≡_}
 use mathlib.Core.List.{List, _++_}
 use lib.ListN.{length, take, drop}
 use lib.Seq.{sets}
-use denote.Ref.{now, at-last}
+use denote.Ref.{RefT, now, at-last}
 use Rattle.wire.specs.Numbers.{wordBytes}
 use Rattle.wire.specs.Tables.{bytes}
-use Rattle.upload.specs.Sizes.{mostCount}
 use Rattle.batch.specs.Writing.{Lies}
 use Rattle.batch.specs.declared.Batch.{Batch}
 
--- Rule 6.3: what a packet begins with: header 14h and opcode 34h, length, start.
+-- Such bytes stand in a buffer from a place on, and the next place is behind them.
+abbrev pub Put : List ℕ → ℕ → List ℕ → ℕ → List ℕ → Type 0
+Put buffer at s next left = (next ≡ at + length s) × (left ≡ sets buffer at s)
+
+-- A batch of which so much is filled, and one with such bytes behind what was filled.
+abbrev pub opened : RefT (List ℕ) → ℕ → Batch
+opened buffer filled = record { buffer = buffer; filled = filled }
+
+abbrev pub behind : Batch → List ℕ → Batch
+behind b s =
+    opened (at-last (b .buffer) (sets (now (b .buffer)) (b .filled) s)) (b .filled + length s)
+
+-- A number of 16 bits has room from a place on.
+abbrev pub WordFits : List ℕ → ℕ → ℕ → Type 0
+WordFits buffer at v = (at + 2 ≤ length buffer) × (v < 65536)
+
+-- Rules 2.1 and 6.3: header 14h and opcode as one number, and with it the length: what a packet begins with.
+abbrev pub firstWord : ℕ → ℕ
+firstWord opcode = 0x14 + 256 * opcode
+
 abbrev pub headOf : ℕ → ℕ → List ℕ
-headOf start count = wordBytes 0x3414 ++ wordBytes (2 + 4 * count) ++ wordBytes start
+headOf opcode size = wordBytes (firstWord opcode) ++ wordBytes size
 
--- Such a head has room from a place on, and stands there.
 abbrev pub HeadFits : List ℕ → ℕ → ℕ → ℕ → Type 0
-HeadFits buffer at start count = (at + 6 ≤ length buffer) × (start < 65536) × (count ≤ mostCount)
+HeadFits buffer at opcode size = (at + 4 ≤ length buffer) × (opcode < 256) × (size < 65536)
 
-abbrev pub HeadPut : List ℕ → ℕ → ℕ → ℕ → ℕ → List ℕ → Type 0
-HeadPut buffer at start count next left = (next ≡ at + 6) × (left ≡ sets buffer at (headOf start count))
+-- The bytes of n numbers of a list from a place on; they have room in a buffer, and lie in a list that is lent as so many elements a number.
+abbrev pub partBytes : List ℕ → ℕ → ℕ → List ℕ
+partBytes list from n = bytes (take n (drop from list))
 
--- The same buffer with a packet's head behind what was filled.
-abbrev pub headed : Batch → ℕ → ℕ → Batch
-headed b start count =
-    record { buffer = at-last (b .buffer) (sets (now (b .buffer)) (b .filled) (headOf start count)); filled = b .filled + 6 }
-
--- The bytes of a map's points, count of them from start on.
-abbrev pub pointBytes : List ℕ → ℕ → ℕ → List ℕ
-pointBytes map start count = bytes (take (2 * count) (drop (2 * start) map))
-
--- Such points of a map of so many numbers a point have room from a place on, and stand there.
-abbrev pub PointsFit : ℕ → List ℕ → ℕ → List ℕ → ℕ → ℕ → Type 0
-PointsFit each buffer at map start count = (at + 4 * count ≤ length buffer) × (count ≤ mostCount) × Lies each map (start + count)
-
-abbrev pub PointsPut : List ℕ → ℕ → List ℕ → ℕ → ℕ → ℕ → List ℕ → Type 0
-PointsPut buffer at map start count next left = (next ≡ at + 4 * count) × (left ≡ sets buffer at (pointBytes map start count))
-
--- The same buffer with such points behind what was filled.
-abbrev pub pointed : Batch → List ℕ → ℕ → ℕ → Batch
-pointed b map start count =
-    record {
-      buffer = at-last (b .buffer) (sets (now (b .buffer)) (b .filled) (pointBytes map start count));
-      filled = b .filled + 4 * count;
-    }
+abbrev pub PartFits : ℕ → List ℕ → ℕ → List ℕ → ℕ → ℕ → Type 0
+PartFits each buffer at list from n = (at + 2 * n ≤ length buffer) × Lies each list (from + n)

@@ -8,9 +8,9 @@ use Rattle.upload.specs.Sizes.{mostCount}
 use Rattle.upload.specs.Plan.{packetFor}
 use Rattle.upload.specs.Parts.{part}
 
--- The first m points lie in a map that is lent as so many numbers a point: two of 16 bits, or four bytes.
+-- The first m of what a list holds lie in it, where each is so many elements: a point is two numbers of 16 bits or four bytes, a number one or two.
 abbrev pub Lies : ℕ → List ℕ → ℕ → Type 0
-Lies each map m = (each * m ≤ length map) × (length map % each ≡ 0)
+Lies each list m = (each * m ≤ length list) × (length list % each ≡ 0)
 
 -- Rules 6.1 and 6.6: a packet of these points of such a map has room in a buffer behind what is filled.
 abbrev pub PacketFits : ℕ → List ℕ → ℕ → List ℕ → ℕ → ℕ → Type 0

@@ -1,34 +1,33 @@
-// Packets of a map that is lent as its bytes: points are copied as they lie.
+// Packets of lists that are lent as their bytes: numbers are copied as they lie.
 ghost use mathlib.Core.Path.{_≡_};
 ghost use Rattle.wire.specs.Tables.{words};
 ghost use Rattle.batch.specs.Writing.{PacketFits, PacketPut};
-ghost use Rattle.batch.specs.Internal.{pointed, PointsFit, PointsPut};
+ghost use Rattle.batch.specs.Internal.{Put, behind, partBytes, PartFits};
 use crate::Batch;
 
-// So many points of the map: where the next packet goes.
-fn points_at(buffer: &mut [u8], at: usize, wanted: &[u8], start: usize, count: usize) -> usize
-    requires { ⌜ PointsFit 4 (now buffer) at (now wanted) start count ⌝ }
-    ensures { λ r.
-        ⌜ PointsPut (now (buffer .entry)) at (words (now (wanted .entry))) start count r (now (buffer .exit)) ⌝ }
+// So many numbers of a list from a place on: where the next goes.
+fn words_at(buffer: &mut [u8], at: usize, list: &[u8], from: usize, n: usize) -> usize
+    requires { ⌜ PartFits 2 (now buffer) at (now list) from n ⌝ }
+    ensures { λ r. ⌜ Put (now (buffer .entry)) at (partBytes (words (now (list .entry))) from n) r (now (buffer .exit)) ⌝ }
 {
-    wire::copy(buffer, at, wanted, 4 * start, 4 * count);
-    at + 4 * count
+    wire::copy(buffer, at, list, 2 * from, 2 * n);
+    at + 2 * n
 }
 
 // The same behind what is filled.
-fn points<'a, 'b>(batch: Batch<'a>, wanted: &'b [u8], start: usize, count: usize) -> Batch<'a>
-    requires { ⌜ PointsFit 4 (now (batch .buffer)) (batch .filled) (now wanted) start count ⌝ }
-    ensures { λ r. ⌜ r ≡ pointed (batch .entry) (words (now (wanted .entry))) start count ⌝ }
+fn words<'a, 'b>(batch: Batch<'a>, list: &'b [u8], from: usize, n: usize) -> Batch<'a>
+    requires { ⌜ PartFits 2 (now (batch .buffer)) (batch .filled) (now list) from n ⌝ }
+    ensures { λ r. ⌜ r ≡ behind (batch .entry) (partBytes (words (now (list .entry))) from n) ⌝ }
 {
     let at = batch.filled;
-    let filled = points_at(&mut *batch.buffer, at, wanted, start, count);
+    let filled = words_at(&mut *batch.buffer, at, list, from, n);
     Batch {
         buffer: batch.buffer,
         filled,
     }
 }
 
-// One packet behind what is filled: how much is filled then.
+// One 34h packet behind what is filled, start and points of the map: how much is filled then.
 pub fn put_packet(
     buffer: &mut [u8],
     filled: usize,
@@ -37,14 +36,16 @@ pub fn put_packet(
     count: usize,
 ) -> usize
     requires { ⌜ PacketFits 4 (now buffer) filled (now wanted) start count ⌝ }
-    ensures { λ r.
-        ⌜ PacketPut (now (buffer .entry)) filled (words (now (wanted .entry))) start count r (now (buffer .exit)) ⌝ }
+    ensures { λ r. ⌜ PacketPut (now (buffer .entry)) filled (words (now (wanted .entry))) start count r (now (buffer .exit)) ⌝ }
 {
-    let batch = points(
-        crate::head(crate::open(buffer, filled), start, count),
+    let size = 2 + 4 * count;
+    let from = 2 * start;
+    let n = 2 * count;
+    let batch = words(
+        crate::word(crate::head(crate::open(buffer, filled), 0x34, size), start),
         wanted,
-        start,
-        count,
+        from,
+        n,
     );
     batch.filled
 }

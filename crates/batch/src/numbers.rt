@@ -1,32 +1,32 @@
-// Packets of a map of 16-bit numbers.
+// Packets of lists of 16-bit numbers.
 ghost use mathlib.Core.Path.{_≡_};
 ghost use Rattle.batch.specs.Writing.{PacketFits, PacketPut};
-ghost use Rattle.batch.specs.Internal.{pointed, PointsFit, PointsPut};
+ghost use Rattle.batch.specs.Internal.{Put, behind, partBytes, PartFits};
 use crate::Batch;
 
-// So many points of the map: where the next packet goes.
-fn points_at(buffer: &mut [u8], at: usize, wanted: &[u16], start: usize, count: usize) -> usize
-    requires { ⌜ PointsFit 2 (now buffer) at (now wanted) start count ⌝ }
-    ensures { λ r. ⌜ PointsPut (now (buffer .entry)) at (now (wanted .entry)) start count r (now (buffer .exit)) ⌝ }
+// So many numbers of a list from a place on: where the next goes.
+fn words_at(buffer: &mut [u8], at: usize, list: &[u16], from: usize, n: usize) -> usize
+    requires { ⌜ PartFits 1 (now buffer) at (now list) from n ⌝ }
+    ensures { λ r. ⌜ Put (now (buffer .entry)) at (partBytes (now (list .entry)) from n) r (now (buffer .exit)) ⌝ }
 {
-    tables::words_out(&mut buffer[at..], wanted, 2 * start, 2 * count);
-    at + 4 * count
+    tables::words_out(&mut buffer[at..], list, from, n);
+    at + 2 * n
 }
 
 // The same behind what is filled.
-fn points<'a, 'b>(batch: Batch<'a>, wanted: &'b [u16], start: usize, count: usize) -> Batch<'a>
-    requires { ⌜ PointsFit 2 (now (batch .buffer)) (batch .filled) (now wanted) start count ⌝ }
-    ensures { λ r. ⌜ r ≡ pointed (batch .entry) (now (wanted .entry)) start count ⌝ }
+fn words<'a, 'b>(batch: Batch<'a>, list: &'b [u16], from: usize, n: usize) -> Batch<'a>
+    requires { ⌜ PartFits 1 (now (batch .buffer)) (batch .filled) (now list) from n ⌝ }
+    ensures { λ r. ⌜ r ≡ behind (batch .entry) (partBytes (now (list .entry)) from n) ⌝ }
 {
     let at = batch.filled;
-    let filled = points_at(&mut *batch.buffer, at, wanted, start, count);
+    let filled = words_at(&mut *batch.buffer, at, list, from, n);
     Batch {
         buffer: batch.buffer,
         filled,
     }
 }
 
-// One packet behind what is filled: how much is filled then.
+// One 34h packet behind what is filled, start and points of the map: how much is filled then.
 pub fn put_packet(
     buffer: &mut [u8],
     filled: usize,
@@ -37,11 +37,14 @@ pub fn put_packet(
     requires { ⌜ PacketFits 2 (now buffer) filled (now wanted) start count ⌝ }
     ensures { λ r. ⌜ PacketPut (now (buffer .entry)) filled (now (wanted .entry)) start count r (now (buffer .exit)) ⌝ }
 {
-    let batch = points(
-        crate::head(crate::open(buffer, filled), start, count),
+    let size = 2 + 4 * count;
+    let from = 2 * start;
+    let n = 2 * count;
+    let batch = words(
+        crate::word(crate::head(crate::open(buffer, filled), 0x34, size), start),
         wanted,
-        start,
-        count,
+        from,
+        n,
     );
     batch.filled
 }

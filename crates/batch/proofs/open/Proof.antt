@@ -68,7 +68,7 @@ module _ {M : Type 1} (𝓤 : URA M) (H : Heap 𝓤) (A : Atoms 𝓤) (W : Given
   exits : ent 𝓤 (onEntry 𝓤 H A opens.signature (κ, tt) (q, tt) a vals) (Post mach)
   exits =
       qed W ((‵ (flft κ q) ⊛ ‵ ftrue) ∷ ‵ (owns (MutSlice (named 0) κ u8 ∷ usize ∷ []) a vals) ∷ []) ∵
-      suffices ! _ (ends-at 𝓤 H A opens.ended stayed (opens.clauses 𝓤 H A mem run) W (((κ, tt), (q, tt), tt, a, vals), tt) mach (record { buffer = x; filled = n }) (tt, (tt, tt)) (tt, (tt, tt))) $ says ! (refl, refl) $
+      suffices ! _ (ends-at 𝓤 H A opens.ended stayed (opens.clauses 𝓤 H A mem run) W (((κ, tt), (q, tt), tt, a, vals), tt) mach (record { buffer = x; filled = n }) (tt, (tt, tt)) (tt, (tt, tt))) $ says ! refl $
       frame ! $ fsplit ! $ nothing ! $ move ! (0 ∷ 2 ∷ []) $ fjoin ! $ frame ! $
       nothing ! $ owned ! usize (Is usize) (uint-makes 𝓤 H A W w64) n _ (refl, n-fits) $ fjoin ! $ move ! (1 ∷ 0 ∷ []) $ fjoin ! $ by ! (own-shut 𝓤 H A W (T.the-type α) (T′.the-laws α) (x, (n, tt)))
 
