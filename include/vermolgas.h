@@ -1,4 +1,4 @@
-/* Vermolgas: the projector front end, its packets and the planning of uploads, for C and C++.
+/* Vermolgas: the projector front end, its packets, the planning of uploads and the compression of gains, for C and C++.
  *
  * Link with libvermolgas.a (x86-64).
  *
@@ -27,7 +27,7 @@
 
 /* The version, and as one number to compare with: 1.2.3 is 10203. */
 #define VERMOLGAS_VERSION_MAJOR 0
-#define VERMOLGAS_VERSION_MINOR 3
+#define VERMOLGAS_VERSION_MINOR 4
 #define VERMOLGAS_VERSION_PATCH 0
 #define VERMOLGAS_VERSION                                                                                             \
     (10000 * VERMOLGAS_VERSION_MAJOR + 100 * VERMOLGAS_VERSION_MINOR + VERMOLGAS_VERSION_PATCH)
@@ -66,10 +66,10 @@ VERMOLGAS_ENUM(vermolgas_refusal) {
     VERMOLGAS_REFUSED_DESTINATION = 6,    /* the destination is not 4 */
     VERMOLGAS_REFUSED_OPCODE = 7,         /* the opcode is not carried */
     VERMOLGAS_REFUSED_LENGTH_MISSING = 8, /* 2Bh, 34h, 35h or 38h is written without a length field */
-    VERMOLGAS_REFUSED_SIZE = 9,           /* wrong size of the data, or a gain count not that of its words */
+    VERMOLGAS_REFUSED_SIZE = 9,           /* wrong size of the data, or a gain count not that of its words, or odd with pairs */
     VERMOLGAS_REFUSED_RANGE = 10,         /* some value out of its range, or reserved */
-    VERMOLGAS_REFUSED_NOT_CARRIED = 11,   /* merge mode, compressed gains */
-    VERMOLGAS_REFUSED_PAST_TABLE = 12     /* start + count past the end of their table */
+    VERMOLGAS_REFUSED_NOT_CARRIED = 11,   /* merge mode */
+    VERMOLGAS_REFUSED_PAST_TABLE = 12     /* start + count, or start + runs, past the end of their table */
 };
 
 /* The commands carried, with the guides' names. */
@@ -128,7 +128,7 @@ VERMOLGAS_ENUM(vermolgas_flip) {
     VERMOLGAS_FLIP_BOTH = 3
 };
 
-/* 2Bh: whose gains. All three at once is for writes; a read of it is refusal 10. Compressed gains are refusal 11. */
+/* 2Bh: whose gains. All three at once is for writes; a read of it is refusal 10. */
 VERMOLGAS_ENUM(vermolgas_gain_colour) {
     VERMOLGAS_GAIN_ALL = 0,
     VERMOLGAS_GAIN_RED = 1,
@@ -138,6 +138,10 @@ VERMOLGAS_ENUM(vermolgas_gain_colour) {
 
 #define VERMOLGAS_GAIN_ONE     4096 /* a gain of 1.0 */
 #define VERMOLGAS_GAIN_HIGHEST 8191
+
+/* 2Bh: whether the words of a write are gains, or pairs of a run, 1 to 2,016, and the gain that it repeats.
+ * vermolgas_compress and vermolgas_split make such writes. */
+VERMOLGAS_ENUM(vermolgas_gain_words) { VERMOLGAS_GAINS_PLAIN = 0, VERMOLGAS_GAINS_COMPRESSED = 1 };
 
 /* 35h: control points evenly over the image, in columns and rows; or 62 and 32 listed. */
 VERMOLGAS_ENUM(vermolgas_control_points) {
@@ -227,6 +231,17 @@ VERMOLGAS_ENUM(vermolgas_uart_source) { VERMOLGAS_UART_SOURCE_RXD = 0, VERMOLGAS
 #define VERMOLGAS_ROOM_BYTES      508  /* working room, 127 numbers of 32 bits; a longer one is taken, too */
 #define VERMOLGAS_CHOICES_BYTES   1984 /* a byte for each point of a full map; more are taken, too */
 #define VERMOLGAS_BATCH_BYTES     8032 /* room for every batch; a longer buffer is taken, too */
+
+/* What compressing and splitting of gains are lent, in bytes. */
+#define VERMOLGAS_GAIN_BYTES        2    /* one gain, 16 bits */
+#define VERMOLGAS_MOST_GAINS        2016 /* the gains of one colour, and so the longest run */
+#define VERMOLGAS_PAIR_BYTES        4    /* one pair: 16 bits run and then 16 bits gain */
+#define VERMOLGAS_PAIRS_BYTES       8064 /* room for every list of pairs, 2,016 of them; a longer one is taken, too */
+#define VERMOLGAS_SPLIT_BATCH_BYTES 8234 /* room for the packets of every list of pairs; a longer one is taken, too */
+
+/* Splitting: the pairs and the bytes of every packet but the last. */
+#define VERMOLGAS_SPLIT_PACKET_PAIRS 125
+#define VERMOLGAS_SPLIT_PACKET_BYTES 510
 
 /* Header bits, in place: what VERMOLGAS_READ_OPTIONS gives and vermolgas_make takes. */
 #define VERMOLGAS_OPTION_TWO_BYTE_OPCODE 0x08
@@ -356,6 +371,42 @@ uint64_t vermolgas_plan(uint32_t points, const uint8_t *held, size_t held_length
 /* The packets of the plan, and the bytes of the batch. */
 #define VERMOLGAS_PLAN_PACKETS(answer) VERMOLGAS_FIELD(size_t, answer, 8, 0xFFFFFFu)
 #define VERMOLGAS_PLAN_BYTES(answer)   VERMOLGAS_FIELD(size_t, answer, 32, 0xFFFFFFFFu)
+
+/* Compresses gains: pairs of a run and a gain that stand for them in order, as few as there can be. No list of pairs
+ * that stands for the same gains is shorter.
+ *
+ * gains are 1 to VERMOLGAS_MOST_GAINS numbers of 16 bits, each at most VERMOLGAS_GAIN_HIGHEST. Refusal 10 for another
+ * number of them, an odd number of bytes or a higher gain, and then 1 for pairs of fewer than VERMOLGAS_PAIRS_BYTES,
+ * however few of them are needed. The answer has the number of pairs, 0 on a refusal. The buffer is unchanged behind
+ * the pairs, and all of it on a refusal.
+ */
+VERMOLGAS_NODISCARD
+uint64_t vermolgas_compress(const uint8_t *gains, size_t gains_length, uint8_t *pairs, size_t pairs_length);
+
+/* The pairs written, VERMOLGAS_PAIR_BYTES each. */
+#define VERMOLGAS_COMPRESS_PAIRS(answer) VERMOLGAS_FIELD(size_t, answer, 8, 0xFFFFFFu)
+
+/* Splits pairs into packets: 2Bh writes of compressed gains for a colour, from a start on. Any pairs will do, those of
+ * vermolgas_compress or others.
+ *
+ * Refusals, in this order: 9 if the bytes of pairs are no multiple of VERMOLGAS_PAIR_BYTES; 10 for no pairs, a colour
+ * over VERMOLGAS_GAIN_BLUE, a run of 0 or over VERMOLGAS_MOST_GAINS, or a gain over VERMOLGAS_GAIN_HIGHEST; 12 if start
+ * and all runs together are over VERMOLGAS_MOST_GAINS, for any start; 1 for a batch of fewer than
+ * VERMOLGAS_SPLIT_BATCH_BYTES, however few of them are needed.
+ *
+ * The batch is the packets back to back: header 14h, opcode 2Bh, length, flag 1, colour, count of words, start, words.
+ * Each has VERMOLGAS_SPLIT_PACKET_PAIRS pairs, in VERMOLGAS_SPLIT_PACKET_BYTES, but for the last, which has the rest;
+ * so packet k begins at byte k x VERMOLGAS_SPLIT_PACKET_BYTES. Each starts at the gain where the one before it ended. A
+ * controller accepts each of them, and then holds the gains that the pairs stand for. The answer has the packets and
+ * their bytes, both 0 on a refusal. The batch is unchanged behind the packets, and all of it on a refusal.
+ */
+VERMOLGAS_NODISCARD
+uint64_t vermolgas_split(uint32_t colour, uint32_t start, const uint8_t *pairs, size_t pairs_length, uint8_t *batch,
+                         size_t batch_length);
+
+/* The packets, and the bytes of the batch. */
+#define VERMOLGAS_SPLIT_PACKETS(answer) VERMOLGAS_FIELD(size_t, answer, 8, 0xFFFFFFu)
+#define VERMOLGAS_SPLIT_BYTES(answer)   VERMOLGAS_FIELD(size_t, answer, 32, 0xFFFFFFFFu)
 
 #ifdef __cplusplus
 }

@@ -39,7 +39,7 @@ VERMOLGAS_INLINE_ const char *vermolgas_refusal_text(unsigned number)
     case VERMOLGAS_REFUSED_SIZE: return "the data has the wrong size";
     case VERMOLGAS_REFUSED_RANGE: return "a value is out of range";
     case VERMOLGAS_REFUSED_NOT_CARRIED: return "not carried";
-    case VERMOLGAS_REFUSED_PAST_TABLE: return "start and count run past the table";
+    case VERMOLGAS_REFUSED_PAST_TABLE: return "start and count, or runs, go past the table";
     default: return "no such refusal";
     }
 }
@@ -566,6 +566,87 @@ VERMOLGAS_INLINE_ bool vermolgas_walk_next(struct vermolgas_walk *walk)
     }
     walk->status = VERMOLGAS_REFUSED_LENT;
     return false;
+}
+
+/* Gains on their way to a controller: as bytes, compressed, and as packets. pair_count, packets and bytes are those of
+ * what was packed last, and all 0 while there is nothing: in a zeroed blend. */
+struct vermolgas_blend {
+    uint8_t gains[VERMOLGAS_GAIN_BYTES * VERMOLGAS_MOST_GAINS];
+    uint8_t pairs[VERMOLGAS_PAIRS_BYTES];
+    uint8_t batch[VERMOLGAS_SPLIT_BATCH_BYTES];
+    size_t pair_count;
+    size_t packets;
+    size_t bytes;
+};
+
+/* Why gains can't be packed, or 0. All of it is judged before anything is written. */
+VERMOLGAS_INLINE_ unsigned vermolgas_judge_gains_(unsigned colour, size_t start, const uint16_t *gains, size_t count)
+{
+    size_t i;
+
+    if (count == 0 || count > VERMOLGAS_MOST_GAINS || colour > VERMOLGAS_GAIN_BLUE)
+        return VERMOLGAS_REFUSED_RANGE;
+    for (i = 0; i < count; i++)
+        if (gains[i] > VERMOLGAS_GAIN_HIGHEST)
+            return VERMOLGAS_REFUSED_RANGE;
+    return start > VERMOLGAS_MOST_GAINS - count ? VERMOLGAS_REFUSED_PAST_TABLE : VERMOLGAS_ACCEPTED;
+}
+
+/* Packs gains of a colour, from start on: compresses them into the fewest pairs, and splits these into packets.
+ *
+ *     if (vermolgas_blend_pack(&blend, VERMOLGAS_GAIN_ALL, 0, gains, VERMOLGAS_MOST_GAINS) != VERMOLGAS_ACCEPTED)
+ *         .. nothing was packed
+ *     for (k = 0; k < blend.packets; k++) {
+ *         struct vermolgas_slice packet = vermolgas_blend_packet(&blend, k);
+ *         send(packet.bytes, packet.length);
+ *     }
+ *
+ * Refusal 10 for no gains or more than VERMOLGAS_MOST_GAINS, a colour or a gain out of range; 12 if they run past the
+ * colour's gains. On a refusal all stays, what was packed before too. */
+VERMOLGAS_INLINE_ unsigned vermolgas_blend_pack(struct vermolgas_blend *blend, enum vermolgas_gain_colour colour,
+                                                size_t start, const uint16_t *gains, size_t count)
+{
+    unsigned status = VERMOLGAS_REFUSED_LENT;
+    uint64_t answer;
+    size_t i;
+
+    if (blend != NULL && (gains != NULL || count == 0))
+        status = vermolgas_judge_gains_(colour, start, gains, count);
+    if (status != VERMOLGAS_ACCEPTED)
+        return status;
+    for (i = 0; i < count; i++) {
+        blend->gains[VERMOLGAS_GAIN_BYTES * i] = VERMOLGAS_CAST(uint8_t, gains[i] & 0xFF);
+        blend->gains[VERMOLGAS_GAIN_BYTES * i + 1] = VERMOLGAS_CAST(uint8_t, gains[i] >> 8);
+    }
+    answer = vermolgas_compress(blend->gains, VERMOLGAS_GAIN_BYTES * count, blend->pairs, sizeof blend->pairs);
+    blend->pair_count = VERMOLGAS_COMPRESS_PAIRS(answer);
+    answer = vermolgas_split(colour, VERMOLGAS_CAST(uint32_t, start), blend->pairs,
+                             VERMOLGAS_PAIR_BYTES * blend->pair_count, blend->batch, sizeof blend->batch);
+    blend->packets = VERMOLGAS_SPLIT_PACKETS(answer);
+    blend->bytes = VERMOLGAS_SPLIT_BYTES(answer);
+    return VERMOLGAS_STATUS(answer);
+}
+
+/* Bytes where they lie. */
+struct vermolgas_slice {
+    const uint8_t *bytes;
+    size_t length;
+};
+
+/* A packet of what was packed, the first by index 0; NULL and 0 where there is none. vermolgas_make_checked makes it
+ * once more for a line that loses bytes. It never leaves the batch, whatever the blend's numbers are. */
+VERMOLGAS_INLINE_ struct vermolgas_slice vermolgas_blend_packet(const struct vermolgas_blend *blend, size_t index)
+{
+    struct vermolgas_slice packet = {NULL, 0};
+    size_t offset = VERMOLGAS_SPLIT_PACKET_BYTES * index, left;
+
+    if (blend == NULL || index >= blend->packets || index > sizeof blend->batch / VERMOLGAS_SPLIT_PACKET_BYTES ||
+        blend->bytes > sizeof blend->batch || blend->bytes <= offset)
+        return packet;
+    left = blend->bytes - offset;
+    packet.bytes = blend->batch + offset;
+    packet.length = left < VERMOLGAS_SPLIT_PACKET_BYTES ? left : VERMOLGAS_SPLIT_PACKET_BYTES;
+    return packet;
 }
 
 #endif

@@ -148,6 +148,8 @@ static const struct {
     {0x1D, true, 0, {0}},
     {0x2B, false, 6 + 2 * 250, {0, 0, 250, 0, 0xE6, 0x06}}, /* gains 1766 to 2015, all colours */
     {0x2B, false, 6 + 2 * 250, {0, 3, 250, 0, 0xE6, 0x06}},
+    {0x2B, false, 6 + 4, {1, 0, 2, 0, 0, 0, 0xE0, 0x07, 0xFF, 0x1F}}, /* all gains, by one pair */
+    {0x2B, false, 6 + 4, {1, 3, 2, 0, 0xDF, 0x07, 1, 0, 0, 0}},
     {0x2B, true, 5, {1, 0, 0, 254, 0}},
     {0x2B, true, 5, {3, 0xE2, 0x06, 254, 0}},             /* gains 1762 to 2015 */
     {0x34, false, 2 + 4 * 126, {0x42, 0x07}},             /* points 1858 to 1983 */
@@ -571,10 +573,136 @@ static void refuse_plans(void)
     }
 }
 
+/* So many gains, of which each step-th differs from the one before it. */
+static struct buffer some_gains(size_t count, size_t step)
+{
+    struct buffer gains = pattern(VERMOLGAS_GAIN_BYTES * count);
+    for (size_t i = 0; i < count; i++) {
+        gains.bytes[2 * i] = gains.before[2 * i] = (uint8_t)(i / step);
+        gains.bytes[2 * i + 1] = gains.before[2 * i + 1] = (uint8_t)(i / step >> 8);
+    }
+    return gains;
+}
+
+static uint64_t compress(const struct buffer *gains, struct buffer *pairs)
+{
+    return vermolgas_compress(gains->bytes, gains->length, pairs->bytes, pairs->length);
+}
+
+static uint64_t split(uint32_t colour, uint32_t first, const struct buffer *pairs, struct buffer *batch)
+{
+    return vermolgas_split(colour, first, pairs->bytes, pairs->length, batch->bytes, batch->length);
+}
+
+/* Sends the packets of a batch, each from a buffer of its length; gives how many there were. */
+static size_t send_batch(const uint8_t *batch, size_t bytes, struct buffer *parts)
+{
+    size_t packets = 0, length;
+    for (size_t at = 0; at < bytes; at += length) {
+        length = bytes - at < VERMOLGAS_SPLIT_PACKET_BYTES ? bytes - at : VERMOLGAS_SPLIT_PACKET_BYTES;
+        struct buffer sent = lend(batch + at, length);
+        accept(&sent, parts);
+        give_back(&sent);
+        packets++;
+    }
+    return packets;
+}
+
+/* Gains compressed and split in rooms that are longer by so much, and sent: blue holds them at its end. */
+static void send_gains(size_t count, size_t step, size_t more)
+{
+    size_t due = (count + step - 1) / step;
+    struct buffer gains = some_gains(count, step), room = pattern(VERMOLGAS_PAIRS_BYTES + more);
+    uint64_t answer = compress(&gains, &room);
+    CHECK(answer == (uint64_t)due << 8);
+    CHECK(unchanged(&gains) && unchanged_from(&room, VERMOLGAS_PAIR_BYTES * due));
+
+    struct buffer pairs = lend(room.bytes, VERMOLGAS_PAIR_BYTES * due);
+    struct buffer batch = pattern(VERMOLGAS_SPLIT_BATCH_BYTES + more), parts[PARTS];
+    answer = split(VERMOLGAS_GAIN_BLUE, (uint32_t)(VERMOLGAS_MOST_GAINS - count), &pairs, &batch);
+    CHECK(VERMOLGAS_STATUS(answer) == VERMOLGAS_ACCEPTED);
+    CHECK(unchanged(&pairs) && unchanged_from(&batch, VERMOLGAS_SPLIT_BYTES(answer)));
+    start(parts);
+    settle(parts);
+    CHECK(send_batch(batch.bytes, VERMOLGAS_SPLIT_BYTES(answer), parts) == VERMOLGAS_SPLIT_PACKETS(answer));
+    size_t written = VERMOLGAS_GAINS_BYTES - gains.length;
+    CHECK(memcmp(parts[GAINS].bytes + written, gains.bytes, gains.length) == 0);
+    for (size_t place = 0; place < written; place++)
+        CHECK(parts[GAINS].bytes[place] == (place % 2 == 0 ? 0x00 : 0x10));
+    end(parts);
+    give_back(&gains);
+    give_back(&room);
+    give_back(&pairs);
+    give_back(&batch);
+}
+
+static void blends(void)
+{
+    static const size_t numbers[] = {1, 2, 125, 126, 250, 251, 2015, VERMOLGAS_MOST_GAINS};
+    static const size_t steps[] = {1, 2, 3, 100, VERMOLGAS_MOST_GAINS};
+    static const size_t more[] = {0, 1, 2, 3, 0x10000};
+    for (size_t i = 0; i < sizeof numbers / sizeof *numbers; i++)
+        for (size_t j = 0; j < sizeof steps / sizeof *steps; j++)
+            send_gains(numbers[i], steps[j], more[(i + j) % (sizeof more / sizeof *more)]);
+}
+
+/* Compressing into rooms that are too short, and from gains of a wrong length. */
+static void refuse_compressing(void)
+{
+    struct buffer gains = some_gains(3, 1), room = none;
+    CHECK(compress(&none, &room) == VERMOLGAS_REFUSED_RANGE);
+    CHECK(compress(&gains, &room) == VERMOLGAS_REFUSED_LENT);
+    for (size_t length = 0; length < VERMOLGAS_PAIRS_BYTES; length++) {
+        room = pattern(length);
+        CHECK(compress(&gains, &room) == VERMOLGAS_REFUSED_LENT);
+        CHECK(unchanged(&gains) && unchanged(&room));
+        give_back(&room);
+    }
+    give_back(&gains);
+    static const size_t lengths[] = {0, 1, 3, 4031, 4033, 4034, 8064, 0x10000 + 2};
+    room = pattern(VERMOLGAS_PAIRS_BYTES);
+    for (size_t i = 0; i < sizeof lengths / sizeof *lengths; i++) {
+        struct buffer wrong = pattern(lengths[i]);
+        CHECK(compress(&wrong, &room) == VERMOLGAS_REFUSED_RANGE);
+        CHECK(unchanged(&wrong) && unchanged(&room));
+        give_back(&wrong);
+    }
+    give_back(&room);
+}
+
+/* Splitting into batches that are too short, and from pairs of a wrong length. */
+static void refuse_splitting(void)
+{
+    static const uint8_t two[] = {1, 0, 5, 0, 2, 0, 6, 0};
+    struct buffer pairs = lend(two, sizeof two), batch = none;
+    CHECK(split(0, 0, &none, &batch) == VERMOLGAS_REFUSED_RANGE);
+    CHECK(split(0, 0, &pairs, &batch) == VERMOLGAS_REFUSED_LENT);
+    for (size_t length = 0; length < VERMOLGAS_SPLIT_BATCH_BYTES; length++) {
+        batch = pattern(length);
+        CHECK(split(0, 0, &pairs, &batch) == VERMOLGAS_REFUSED_LENT);
+        CHECK(unchanged(&pairs) && unchanged(&batch));
+        give_back(&batch);
+    }
+    batch = pattern(VERMOLGAS_SPLIT_BATCH_BYTES);
+    CHECK(split(4, 0, &pairs, &batch) == VERMOLGAS_REFUSED_RANGE);
+    CHECK(split(3, 2014, &pairs, &batch) == VERMOLGAS_REFUSED_PAST_TABLE);
+    give_back(&pairs);
+    for (size_t length = 0; length < sizeof two; length++) {
+        pairs = lend(two, length);
+        uint64_t due = length % 4 != 0 ? VERMOLGAS_REFUSED_SIZE : VERMOLGAS_REFUSED_RANGE;
+        CHECK(split(length == 4 ? 4 : 0, UINT32_MAX, &pairs, &batch) == due);
+        CHECK(unchanged(&pairs) && unchanged(&batch));
+        give_back(&pairs);
+    }
+    give_back(&batch);
+}
+
 static const struct group groups[] = {
     {"right buffers", right_buffers},       {"wrong buffers", wrong_buffers},    {"cut packets", cut_packets},
     {"making", make_packets},               {"replies", read_replies},           {"plans", plan_uploads},
     {"longer rooms", plan_in_longer_rooms}, {"short rooms", refuse_short_rooms}, {"plans refused", refuse_plans},
+    {"blends", blends},                     {"compressing refused", refuse_compressing},
+    {"splitting refused", refuse_splitting},
 };
 
 int main(void)

@@ -9,6 +9,7 @@
 
 static struct vermolgas_device device, before;
 static struct vermolgas_upload upload, upload_before;
+static struct vermolgas_blend blend, blend_before;
 static struct vermolgas_reply reply, reply_before;
 
 /* Whether these are the bytes of a text such as "04 11 01". */
@@ -82,13 +83,14 @@ static void keep(void)
 {
     before = device;
     upload_before = upload;
+    memcpy(&blend_before, &blend, sizeof blend); /* what lies between its fields, too */
     reply_before = reply;
 }
 
 static bool kept(void)
 {
     return memcmp(&before, &device, sizeof device) == 0 && memcmp(&reply_before, &reply, sizeof reply) == 0 &&
-           memcmp(&upload_before, &upload, sizeof upload) == 0;
+           memcmp(&upload_before, &upload, sizeof upload) == 0 && memcmp(&blend_before, &blend, sizeof blend) == 0;
 }
 
 static bool listed(const unsigned *list, size_t count, unsigned number)
@@ -134,6 +136,7 @@ static const unsigned flips[] = {VERMOLGAS_FLIP_NONE, VERMOLGAS_FLIP_VERTICAL, V
                                  VERMOLGAS_FLIP_BOTH};
 static const unsigned gain_colours[] = {VERMOLGAS_GAIN_ALL, VERMOLGAS_GAIN_RED, VERMOLGAS_GAIN_GREEN,
                                         VERMOLGAS_GAIN_BLUE};
+static const unsigned gain_words[] = {VERMOLGAS_GAINS_PLAIN, VERMOLGAS_GAINS_COMPRESSED};
 static const unsigned modes[] = {VERMOLGAS_CONTROL_POINTS_EVEN};
 static const unsigned updates[] = {VERMOLGAS_UPDATE_OVERWRITE};
 static const unsigned directions[] = {VERMOLGAS_GPIO_INPUT, VERMOLGAS_GPIO_OUTPUT};
@@ -172,6 +175,7 @@ static const struct {
     {VERMOLGAS_OP_CURTAIN, "", 1, 0, curtains, COUNT(curtains)},
     {VERMOLGAS_OP_FLIP, "", 1, 0, flips, COUNT(flips)},
     {VERMOLGAS_OP_GAINS, "\0\0\1\0\0\0\0", 8, 1, gain_colours, COUNT(gain_colours)},
+    {VERMOLGAS_OP_GAINS, "\0\0\2\0\0\0\1\0\0", 10, 0, gain_words, COUNT(gain_words)},
     {VERMOLGAS_OP_CONTROL_POINTS, "\0\2\0\2", 5, 0, modes, COUNT(modes)},
     {VERMOLGAS_OP_UPDATE_MODE, "", 1, 0, updates, COUNT(updates)},
     {VERMOLGAS_OP_GPIO_PIN_CONFIG, "\0\0\0", 4, 1, directions, COUNT(directions)},
@@ -693,6 +697,123 @@ static void strange_uploads(void)
     CHECK(walks(0, VERMOLGAS_REFUSED_LENT));
 }
 
+/* Gains by their place: in stretches of so many. */
+static uint16_t blended[VERMOLGAS_MOST_GAINS + 1];
+
+static void blend_gains(size_t stretch)
+{
+    size_t i;
+
+    for (i = 0; i < COUNT(blended); i++)
+        blended[i] = VERMOLGAS_CAST(uint16_t, i / stretch);
+}
+
+/* Sends each packet, as it is or checked, and gives how many bytes they had. */
+static size_t send_blend(bool checked)
+{
+    size_t bytes = 0, k;
+
+    for (k = 0; k < blend.packets; k++) {
+        struct vermolgas_slice packet = vermolgas_blend_packet(&blend, k);
+        struct vermolgas_command command = vermolgas_make_checked(packet.bytes, packet.length);
+        CHECK(packet.bytes == blend.batch + bytes && command.length == packet.length + 1);
+        if (checked)
+            CHECK(send(&command).status == VERMOLGAS_ACCEPTED);
+        else
+            CHECK(vermolgas_device_send(&device, packet.bytes, packet.length, &reply).status == VERMOLGAS_ACCEPTED);
+        bytes += packet.length;
+    }
+    return bytes;
+}
+
+/* Whether a colour, counted from 0, has these gains from first on, and else those of reset. */
+static bool has_gains(size_t third, size_t first, size_t count)
+{
+    const uint8_t *gains = device.gains + third * VERMOLGAS_GAINS_BYTES / 3;
+    size_t i;
+
+    for (i = 0; i < VERMOLGAS_MOST_GAINS; i++) {
+        size_t due = i >= first && i - first < count ? blended[i - first] : VERMOLGAS_GAIN_ONE;
+        if ((gains[2 * i] | VERMOLGAS_CAST(size_t, gains[2 * i + 1]) << 8) != due)
+            return false;
+    }
+    return true;
+}
+
+static void blends(void)
+{
+    struct vermolgas_slice packet;
+
+    start();
+    blend_gains(100);
+    CHECK(vermolgas_blend_pack(&blend, VERMOLGAS_GAIN_BLUE, 258, blended, 150) == VERMOLGAS_ACCEPTED);
+    CHECK(blend.pair_count == 2 && blend.packets == 1 && blend.bytes == 18);
+    packet = vermolgas_blend_packet(&blend, 0);
+    CHECK(bytes_are(packet.bytes, packet.length, "14 2B 0E 00 01 03 04 00 02 01 64 00 00 00 32 00 01 00"));
+    CHECK(vermolgas_blend_packet(&blend, 1).bytes == NULL && vermolgas_blend_packet(&blend, 1).length == 0);
+    CHECK(send_blend(true) == blend.bytes && has_gains(2, 258, 150) && has_gains(0, 0, 0) && has_gains(1, 0, 0));
+
+    /* As many packets as there can be, and one for all. */
+    blend_gains(1);
+    CHECK(vermolgas_blend_pack(&blend, VERMOLGAS_GAIN_ALL, 0, blended, VERMOLGAS_MOST_GAINS) == VERMOLGAS_ACCEPTED);
+    CHECK(blend.pair_count == 2016 && blend.packets == 17 && blend.bytes == VERMOLGAS_SPLIT_BATCH_BYTES);
+    CHECK(send_blend(false) == blend.bytes);
+    CHECK(has_gains(0, 0, 2016) && has_gains(1, 0, 2016) && has_gains(2, 0, 2016));
+    blend_gains(VERMOLGAS_MOST_GAINS);
+    CHECK(vermolgas_blend_pack(&blend, VERMOLGAS_GAIN_RED, 0, blended, VERMOLGAS_MOST_GAINS) == VERMOLGAS_ACCEPTED);
+    CHECK(blend.pair_count == 1 && blend.packets == 1 && blend.bytes == 14);
+    CHECK(send_blend(false) == blend.bytes && has_gains(0, 0, 2016));
+}
+
+/* What is refused changes nothing, not the packets from before either. */
+static void blends_refused(void)
+{
+    enum vermolgas_gain_colour none = VERMOLGAS_CAST(enum vermolgas_gain_colour, 4u);
+
+    blend_gains(1);
+    CHECK(vermolgas_blend_pack(&blend, VERMOLGAS_GAIN_RED, 2014, blended, 2) == VERMOLGAS_ACCEPTED);
+    keep();
+    CHECK(vermolgas_blend_pack(NULL, none, 0, blended, 1) == VERMOLGAS_REFUSED_LENT);
+    CHECK(vermolgas_blend_pack(&blend, none, 0, NULL, 1) == VERMOLGAS_REFUSED_LENT);
+    CHECK(vermolgas_blend_pack(&blend, VERMOLGAS_GAIN_RED, SIZE_MAX, NULL, 0) == VERMOLGAS_REFUSED_RANGE);
+    CHECK(vermolgas_blend_pack(&blend, VERMOLGAS_GAIN_RED, 0, blended, COUNT(blended)) == VERMOLGAS_REFUSED_RANGE);
+    CHECK(vermolgas_blend_pack(&blend, VERMOLGAS_GAIN_RED, 0, blended, SIZE_MAX) == VERMOLGAS_REFUSED_RANGE);
+    CHECK(vermolgas_blend_pack(&blend, none, 2016, blended, 1) == VERMOLGAS_REFUSED_RANGE);
+    CHECK(vermolgas_blend_pack(&blend, VERMOLGAS_CAST(enum vermolgas_gain_colour, 256u), 0, blended, 1) ==
+          VERMOLGAS_REFUSED_RANGE);
+    CHECK(vermolgas_blend_pack(&blend, VERMOLGAS_GAIN_RED, 2015, blended, 2) == VERMOLGAS_REFUSED_PAST_TABLE);
+    CHECK(vermolgas_blend_pack(&blend, VERMOLGAS_GAIN_RED, 1, blended, 2016) == VERMOLGAS_REFUSED_PAST_TABLE);
+    CHECK(vermolgas_blend_pack(&blend, VERMOLGAS_GAIN_RED, SIZE_MAX, blended, 2) == VERMOLGAS_REFUSED_PAST_TABLE);
+    blended[1] = VERMOLGAS_GAIN_HIGHEST + 1;
+    CHECK(vermolgas_blend_pack(&blend, VERMOLGAS_GAIN_RED, SIZE_MAX, blended, 2) == VERMOLGAS_REFUSED_RANGE);
+    CHECK(kept() && vermolgas_blend_packet(&blend, 0).length == 18);
+    blended[1] = VERMOLGAS_GAIN_HIGHEST;
+    CHECK(vermolgas_blend_pack(&blend, VERMOLGAS_GAIN_RED, 0, blended, 2) == VERMOLGAS_ACCEPTED);
+}
+
+/* A blend that is not packed has no packet, and one whose numbers were changed none outside of its batch. */
+static void strange_blends(void)
+{
+    static const size_t numbers[] = {0, 1, 17, 18, 510, 8160, VERMOLGAS_SPLIT_BATCH_BYTES, 8235, SIZE_MAX / 2, SIZE_MAX};
+    size_t i;
+
+    memset(&blend, 0, sizeof blend);
+    CHECK(vermolgas_blend_packet(&blend, 0).bytes == NULL && vermolgas_blend_packet(NULL, 0).bytes == NULL);
+    for (i = 0; i < COUNT(numbers) * COUNT(numbers) * COUNT(numbers); i++) {
+        size_t index = numbers[i % COUNT(numbers)], offset = VERMOLGAS_SPLIT_PACKET_BYTES * index;
+        struct vermolgas_slice packet;
+        blend.packets = numbers[i / COUNT(numbers) % COUNT(numbers)];
+        blend.bytes = numbers[i / COUNT(numbers) / COUNT(numbers)];
+        packet = vermolgas_blend_packet(&blend, index);
+        if (packet.bytes == NULL)
+            CHECK(packet.length == 0);
+        else
+            CHECK(index <= 16 && packet.bytes == blend.batch + offset && packet.length > 0 &&
+                  offset + packet.length <= sizeof blend.batch);
+    }
+    memset(&blend, 0, sizeof blend);
+}
+
 /* Arguments that are nothing, or out of range: a status, and no byte is written. */
 static void bad_arguments(void)
 {
@@ -772,6 +893,9 @@ static const struct group groups[] = {
     {"changed heads", changed_heads},
     {"plans in mid-walk", plans_in_mid_walk},
     {"strange uploads", strange_uploads},
+    {"blends", blends},
+    {"blends refused", blends_refused},
+    {"strange blends", strange_blends},
     {"bad arguments", bad_arguments},
     {"words", words},
     {"version", version},

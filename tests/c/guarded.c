@@ -159,17 +159,42 @@ static void put_list(struct command *command, size_t count)
         put(command, number, 2);
 }
 
+/* The data of a 2Bh write ahead of its words. */
+static void put_gains_head(struct command *command, size_t flag, size_t words)
+{
+    put(command, one_in(64) ? below(0) : flag, 1);
+    put(command, below(4), 1);
+    put(command, words, 2);
+    put(command, one_in(4) ? below(2016) : below(64), 2);
+}
+
+static void put_gains(struct command *command, size_t count)
+{
+    put_gains_head(command, 0, count);
+    put_numbers(command, count, 8192);
+}
+
+/* Pairs whose runs fit a colour, mostly; now and then a run of 0. */
+static void put_pairs(struct command *command, size_t count)
+{
+    size_t most = (VERMOLGAS_MOST_GAINS - 64) / count;
+    put_gains_head(command, 1, 2 * count - one_in(64));
+    for (size_t i = 0; i < count; i++) {
+        put(command, one_in(1024) ? 0 : 1 + below(most), 2);
+        put_numbers(command, 1, 8192);
+    }
+}
+
 /* The data of a write that varies: 2Bh, 34h, 35h or 38h. */
 static void put_varying(struct command *command)
 {
     size_t count = 1 + below(126), columns = 3 + below(3), rows = 3 + below(3);
     switch (command->opcode) {
     case 0x2B:
-        put(command, one_in(16), 1);
-        put(command, below(4), 1);
-        put(command, count, 2);
-        put(command, below(2016), 2);
-        put_numbers(command, count, 8192);
+        if (one_in(2))
+            put_pairs(command, count);
+        else
+            put_gains(command, count);
         break;
     case 0x34:
         put(command, one_in(4) ? below(1984) : below(64), 2);
@@ -381,6 +406,56 @@ static void try_plan(bool *accepted)
     CHECK(unchanged_from(2, 4 * VERMOLGAS_PLAN_PACKETS(answer)) && unchanged_from(5, VERMOLGAS_PLAN_BYTES(answer)));
 }
 
+/* Gains in stretches, of which now and then one is too high. */
+static void try_compress(bool *accepted)
+{
+    uint8_t bytes[VERMOLGAS_GAIN_BYTES * VERMOLGAS_MOST_GAINS];
+    size_t count = 1 + below(one_in(4) ? VERMOLGAS_MOST_GAINS : 40), stretch = 1 + below(50), gain = below(8192);
+    bool high = one_in(16);
+    for (size_t i = 0; i < count; i++) {
+        gain = one_in(stretch) ? below(8192) : gain;
+        bytes[2 * i] = (uint8_t)gain;
+        bytes[2 * i + 1] = (uint8_t)(gain >> 8);
+    }
+    if (high)
+        bytes[2 * below(count) + 1] = 0x20;
+    lend_kept(0, bytes, VERMOLGAS_GAIN_BYTES * count);
+    lend_pattern(1, length_from(VERMOLGAS_PAIRS_BYTES));
+    uint64_t answer = vermolgas_compress(buffers[0].bytes, buffers[0].length, buffers[1].bytes, buffers[1].length);
+    bool room = buffers[1].length >= VERMOLGAS_PAIRS_BYTES;
+    *accepted = VERMOLGAS_STATUS(answer) == VERMOLGAS_ACCEPTED;
+    CHECK(room || !*accepted);
+    if (buffers[0].length == VERMOLGAS_GAIN_BYTES * count) /* else they are a pattern */
+        CHECK(*accepted == (room && !high));
+    CHECK(*accepted == (VERMOLGAS_COMPRESS_PAIRS(answer) > 0) && VERMOLGAS_COMPRESS_PAIRS(answer) <= count + 1);
+    CHECK(unchanged_from(0, 0) && unchanged_from(1, VERMOLGAS_PAIR_BYTES * VERMOLGAS_COMPRESS_PAIRS(answer)));
+}
+
+/* Pairs that fit a colour from the start on, unless the start is too far. */
+static void try_split(bool *accepted)
+{
+    static const uint32_t far[] = {VERMOLGAS_MOST_GAINS, 0x10000, UINT32_MAX};
+    uint8_t bytes[VERMOLGAS_PAIRS_BYTES];
+    size_t count = 1 + below(one_in(4) ? VERMOLGAS_MOST_GAINS : 300), most = VERMOLGAS_MOST_GAINS / count;
+    uint32_t colour = (uint32_t)below(one_in(32) ? 6 : 4), start = one_in(32) ? far[below(3)] : 0;
+    for (size_t i = 0; i < count; i++) {
+        size_t run = 1 + below(most), gain = below(8192);
+        const uint8_t pair[] = {(uint8_t)run, (uint8_t)(run >> 8), (uint8_t)gain, (uint8_t)(gain >> 8)};
+        memcpy(bytes + sizeof pair * i, pair, sizeof pair);
+    }
+    lend_kept(0, bytes, VERMOLGAS_PAIR_BYTES * count);
+    lend_pattern(1, length_from(VERMOLGAS_SPLIT_BATCH_BYTES));
+    uint64_t answer = vermolgas_split(colour, start, buffers[0].bytes, buffers[0].length, buffers[1].bytes,
+                                      buffers[1].length);
+    *accepted = VERMOLGAS_STATUS(answer) == VERMOLGAS_ACCEPTED;
+    bool taken = colour <= 3 && start == 0 && buffers[1].length >= VERMOLGAS_SPLIT_BATCH_BYTES;
+    CHECK(taken || !*accepted);
+    if (buffers[0].length == VERMOLGAS_PAIR_BYTES * count)
+        CHECK(*accepted == taken);
+    CHECK(*accepted == (VERMOLGAS_SPLIT_PACKETS(answer) > 0) && *accepted == (VERMOLGAS_SPLIT_BYTES(answer) > 0));
+    CHECK(unchanged_from(0, 0) && unchanged_from(1, VERMOLGAS_SPLIT_BYTES(answer)));
+}
+
 /* Entries with their share of the calls. */
 static struct entry {
     const char *name;
@@ -390,9 +465,10 @@ static struct entry {
     {"vermolgas_reset", try_reset, 1, 0, 0},           {"vermolgas_packet", try_packet, 6, 0, 0},
     {"vermolgas_read", try_read, 3, 0, 0},             {"vermolgas_make", try_make, 3, 0, 0},
     {"vermolgas_read_reply", try_read_reply, 2, 0, 0}, {"vermolgas_plan", try_plan, 1, 0, 0},
+    {"vermolgas_compress", try_compress, 1, 0, 0},     {"vermolgas_split", try_split, 1, 0, 0},
 };
 
-enum { ENTRIES = sizeof entries / sizeof *entries, SHARES = 16 };
+enum { ENTRIES = sizeof entries / sizeof *entries, SHARES = 18 };
 
 static struct entry *any_entry(void)
 {

@@ -372,11 +372,172 @@ static void refuse_plans(void)
     CHECK(upload.plan[0] == 0xAA && upload.room[0] == 0xAA && upload.choices[0] == 0xAA && upload.batch[0] == 0xAA);
 }
 
+/* 2Bh writes of pairs: red gains 2014 and 2015, then three gains of all colours. */
+static void send_pairs(void)
+{
+    CHECK(vermolgas_reset(LENT) == VERMOLGAS_ACCEPTED);
+    CHECK(send(BYTES(0x14, 0x2B, 0x0A, 0x00, VERMOLGAS_GAINS_COMPRESSED, VERMOLGAS_GAIN_RED, 0x02, 0x00, 0xDE, 0x07,
+                     0x02, 0x00, 0x00, 0x14)) == replied(0));
+    CHECK(memcmp(lent.gains + 2 * 2013, (const uint8_t[]){0x00, 0x10, 0x00, 0x14, 0x00, 0x14, 0x00, 0x10}, 8) == 0);
+    CHECK(send(BYTES(0x14, 0x2B, 0x0E, 0x00, VERMOLGAS_GAINS_COMPRESSED, VERMOLGAS_GAIN_ALL, 0x04, 0x00, 0x01, 0x00,
+                     0x02, 0x00, 0x05, 0x00, 0x01, 0x00, 0xFF, 0x1F)) == replied(0));
+    for (size_t third = 0; third < 3; third++)
+        CHECK(memcmp(lent.gains + third * VERMOLGAS_GAINS_BYTES / 3,
+                     (const uint8_t[]){0x00, 0x10, 0x05, 0x00, 0x05, 0x00, 0xFF, 0x1F, 0x00, 0x10}, 10) == 0);
+}
+
+/* Half a pair, a run of 0, a run of 2,017, a gain of 8,192, one gain past the end; the guide's example, but for its
+ * ramp. */
+static void refuse_pairs(void)
+{
+    uint8_t example[4 + 6 + 4 * 32] = {0x54, 0x2B, 6 + 4 * 32, 0x00, 0x01, 0x00, 64, 0x00, 0x00, 0x00,
+                                       0x3F, 0x00, 0x00,       0x10, 0x00, 0x00, 0x3F};
+    for (size_t word = 4; word < 64; word++)
+        example[10 + 2 * word] = word % 2 == 0 && word < 32 ? 0 : 63;
+
+    CHECK(vermolgas_reset(LENT) == VERMOLGAS_ACCEPTED);
+    CHECK(send(BYTES(0x14, 0x2B, 8, 0, 1, 4, 1, 0, 0, 0, 1, 0)) == VERMOLGAS_REFUSED_SIZE);
+    CHECK(send(BYTES(0x14, 0x2B, 14, 0, 1, 1, 4, 0, 0, 0, 1, 0, 5, 0, 0, 0, 5, 0)) == VERMOLGAS_REFUSED_RANGE);
+    CHECK(send(BYTES(0x14, 0x2B, 14, 0, 1, 1, 4, 0, 0, 0, 1, 0, 5, 0, 0xE1, 7, 5, 0)) == VERMOLGAS_REFUSED_RANGE);
+    CHECK(send(BYTES(0x14, 0x2B, 14, 0, 1, 1, 4, 0, 0, 0, 1, 0, 5, 0, 1, 0, 0, 0x20)) == VERMOLGAS_REFUSED_RANGE);
+    CHECK(send(BYTES(0x14, 0x2B, 10, 0, 1, 1, 2, 0, 1, 0, 0xE0, 7, 5, 0)) == VERMOLGAS_REFUSED_PAST_TABLE);
+    CHECK(send(BYTES(0x14, 0x2B, 10, 0, 1, 1, 2, 0, 0xFF, 0xFF, 1, 0, 5, 0)) == VERMOLGAS_REFUSED_PAST_TABLE);
+    CHECK(VERMOLGAS_STATUS(send(example, sizeof example)) == VERMOLGAS_REFUSED_RANGE);
+    CHECK(lent.gains[0] == 0x00 && lent.gains[1] == 0x10);
+}
+
+/* What compressing and splitting write. */
+static struct {
+    uint8_t gains[VERMOLGAS_GAIN_BYTES * VERMOLGAS_MOST_GAINS], pairs[VERMOLGAS_PAIRS_BYTES];
+    uint8_t batch[VERMOLGAS_SPLIT_BATCH_BYTES];
+} blend;
+
+/* Compresses so many of the gains. */
+static uint64_t compress(size_t gains)
+{
+    memset(blend.pairs, 0xAA, sizeof blend.pairs);
+    return vermolgas_compress(blend.gains, VERMOLGAS_GAIN_BYTES * gains, blend.pairs, sizeof blend.pairs);
+}
+
+/* Splits so many of the pairs. */
+static uint64_t split(uint32_t colour, uint32_t start, size_t pairs)
+{
+    memset(blend.batch, 0xAA, sizeof blend.batch);
+    return vermolgas_split(colour, start, blend.pairs, VERMOLGAS_PAIR_BYTES * pairs, blend.batch, sizeof blend.batch);
+}
+
+static void compress_gains(void)
+{
+    CHECK(VERMOLGAS_PAIRS_BYTES == VERMOLGAS_PAIR_BYTES * VERMOLGAS_MOST_GAINS);
+    CHECK(VERMOLGAS_GAINS_BYTES == 3 * VERMOLGAS_GAIN_BYTES * VERMOLGAS_MOST_GAINS);
+    memset(blend.gains, 0, sizeof blend.gains);
+    uint64_t answer = compress(VERMOLGAS_MOST_GAINS);
+    CHECK(VERMOLGAS_STATUS(answer) == VERMOLGAS_ACCEPTED && VERMOLGAS_COMPRESS_PAIRS(answer) == 1);
+    CHECK(memcmp(blend.pairs, (const uint8_t[]){0xE0, 0x07, 0x00, 0x00, 0xAA}, 5) == 0);
+
+    /* Gains 0, 8191, 8191, 1. */
+    memcpy(blend.gains, (const uint8_t[]){0x00, 0x00, 0xFF, 0x1F, 0xFF, 0x1F, 0x01, 0x00}, 8);
+    answer = compress(4);
+    CHECK(answer == UINT64_C(3) << 8 && VERMOLGAS_COMPRESS_PAIRS(answer) == 3);
+    CHECK(memcmp(blend.pairs, (const uint8_t[]){1, 0, 0x00, 0x00, 2, 0, 0xFF, 0x1F, 1, 0, 0x01, 0x00, 0xAA}, 13) == 0);
+
+    for (size_t i = 0; i < VERMOLGAS_MOST_GAINS; i++) {
+        blend.gains[2 * i] = (uint8_t)i;
+        blend.gains[2 * i + 1] = (uint8_t)(i >> 8);
+    }
+    CHECK(VERMOLGAS_COMPRESS_PAIRS(compress(VERMOLGAS_MOST_GAINS)) == VERMOLGAS_MOST_GAINS);
+    CHECK(memcmp(blend.pairs + sizeof blend.pairs - 4, (const uint8_t[]){1, 0, 0xDF, 0x07}, 4) == 0);
+}
+
+static void refuse_gains(void)
+{
+    const uint8_t *gains = blend.gains;
+    uint8_t *pairs = blend.pairs;
+    size_t least = VERMOLGAS_PAIRS_BYTES;
+    uint8_t longer[VERMOLGAS_GAIN_BYTES * (VERMOLGAS_MOST_GAINS + 1)] = {0};
+
+    CHECK(least == 8064);
+    CHECK(compress(0) == VERMOLGAS_REFUSED_RANGE && pairs[0] == 0xAA);
+    CHECK(vermolgas_compress(gains, 3, pairs, least) == VERMOLGAS_REFUSED_RANGE);
+    CHECK(vermolgas_compress(longer, sizeof longer, pairs, least) == VERMOLGAS_REFUSED_RANGE);
+    CHECK(vermolgas_compress(longer, sizeof longer, NULL, 0) == VERMOLGAS_REFUSED_RANGE);
+    CHECK(vermolgas_compress((const uint8_t[]){0x00, 0x20}, 2, pairs, least) == VERMOLGAS_REFUSED_RANGE);
+    CHECK(vermolgas_compress((const uint8_t[]){0x00, 0x20}, 2, pairs, least - 1) == VERMOLGAS_REFUSED_RANGE);
+    CHECK(vermolgas_compress((const uint8_t[]){0xFF, 0x1F}, 2, pairs, least - 1) == VERMOLGAS_REFUSED_LENT);
+    CHECK(vermolgas_compress((const uint8_t[]){0xFF, 0x1F}, 2, NULL, 0) == VERMOLGAS_REFUSED_LENT);
+    CHECK(vermolgas_compress(NULL, 0, NULL, 0) == VERMOLGAS_REFUSED_RANGE);
+    CHECK(pairs[0] == 0xAA && pairs[least - 1] == 0xAA);
+}
+
+/* So many pairs of run 1, with gains that count from 0. */
+static void fill_pairs(size_t pairs)
+{
+    for (size_t i = 0; i < pairs; i++)
+        memcpy(blend.pairs + VERMOLGAS_PAIR_BYTES * i, (const uint8_t[]){1, 0, (uint8_t)i, (uint8_t)(i >> 8)}, 4);
+}
+
+static void split_pairs(void)
+{
+    fill_pairs(VERMOLGAS_MOST_GAINS);
+    uint64_t answer = split(VERMOLGAS_GAIN_GREEN, 258, 2);
+    CHECK(VERMOLGAS_STATUS(answer) == VERMOLGAS_ACCEPTED);
+    CHECK(VERMOLGAS_SPLIT_PACKETS(answer) == 1 && VERMOLGAS_SPLIT_BYTES(answer) == 18);
+    CHECK(memcmp(blend.batch,
+                 (const uint8_t[]){0x14, 0x2B, 14, 0, 1, 2, 4, 0, 0x02, 0x01, 1, 0, 0, 0, 1, 0, 1, 0, 0xAA}, 19) == 0);
+
+    answer = split(VERMOLGAS_GAIN_ALL, 7, VERMOLGAS_SPLIT_PACKET_PAIRS + 1);
+    CHECK(VERMOLGAS_SPLIT_PACKETS(answer) == 2);
+    CHECK(VERMOLGAS_SPLIT_BYTES(answer) == VERMOLGAS_SPLIT_PACKET_BYTES + 14);
+    CHECK(memcmp(blend.batch, (const uint8_t[]){0x14, 0x2B, 0xFA, 0x01, 1, 0, 250, 0, 7, 0}, 10) == 0);
+    CHECK(memcmp(blend.batch + VERMOLGAS_SPLIT_PACKET_BYTES,
+                 (const uint8_t[]){0x14, 0x2B, 10, 0, 1, 0, 2, 0, 132, 0, 1, 0, 125, 0, 0xAA}, 15) == 0);
+
+    /* As many pairs as there are gains fill the batch; the front end takes the packets. */
+    CHECK(vermolgas_reset(LENT) == VERMOLGAS_ACCEPTED);
+    answer = split(VERMOLGAS_GAIN_BLUE, 0, VERMOLGAS_MOST_GAINS);
+    CHECK(VERMOLGAS_SPLIT_PACKETS(answer) == 17 && VERMOLGAS_SPLIT_BYTES(answer) == VERMOLGAS_SPLIT_BATCH_BYTES);
+    for (size_t at = 0; at < VERMOLGAS_SPLIT_BATCH_BYTES; at += VERMOLGAS_SPLIT_PACKET_BYTES) {
+        size_t left = VERMOLGAS_SPLIT_BATCH_BYTES - at;
+        CHECK(send(blend.batch + at, left < VERMOLGAS_SPLIT_PACKET_BYTES ? left : VERMOLGAS_SPLIT_PACKET_BYTES) == 0);
+    }
+    for (size_t i = 0; i < VERMOLGAS_MOST_GAINS; i++)
+        CHECK(memcmp(lent.gains + 2 * (2 * VERMOLGAS_MOST_GAINS + i), blend.pairs + 4 * i + 2, 2) == 0);
+}
+
+static void refuse_splits(void)
+{
+    size_t least = VERMOLGAS_SPLIT_BATCH_BYTES;
+
+    CHECK(least == 8234);
+    fill_pairs(VERMOLGAS_MOST_GAINS);
+    CHECK(vermolgas_split(4, UINT32_MAX, blend.pairs, 5, NULL, 0) == VERMOLGAS_REFUSED_SIZE);
+    CHECK(vermolgas_split(4, UINT32_MAX, NULL, 0, NULL, 0) == VERMOLGAS_REFUSED_RANGE);
+    CHECK(split(0, 0, 0) == VERMOLGAS_REFUSED_RANGE);
+    CHECK(split(4, 2016, 1) == VERMOLGAS_REFUSED_RANGE);
+    CHECK(split(256, 0, 1) == VERMOLGAS_REFUSED_RANGE);
+    CHECK(split(3, 1, VERMOLGAS_MOST_GAINS) == VERMOLGAS_REFUSED_PAST_TABLE);
+    CHECK(split(3, 2016, 1) == VERMOLGAS_REFUSED_PAST_TABLE);
+    CHECK(split(3, 0x10000, 1) == VERMOLGAS_REFUSED_PAST_TABLE);
+    CHECK(split(3, UINT32_MAX, 1) == VERMOLGAS_REFUSED_PAST_TABLE);
+    CHECK(vermolgas_split(3, 2016, blend.pairs, 4, NULL, 0) == VERMOLGAS_REFUSED_PAST_TABLE);
+    CHECK(vermolgas_split(3, 2015, blend.pairs, 4, blend.batch, least - 1) == VERMOLGAS_REFUSED_LENT);
+    CHECK(vermolgas_split(3, 2015, blend.pairs, 4, NULL, 0) == VERMOLGAS_REFUSED_LENT);
+    blend.pairs[0] = 0; /* a run of 0 */
+    CHECK(split(3, 2016, 2) == VERMOLGAS_REFUSED_RANGE);
+    memcpy(blend.pairs, (const uint8_t[]){0xE1, 0x07, 0, 0}, 4); /* of 2,017 */
+    CHECK(split(3, 0, 1) == VERMOLGAS_REFUSED_RANGE);
+    memcpy(blend.pairs, (const uint8_t[]){1, 0, 0x00, 0x20}, 4); /* a gain of 8,192 */
+    CHECK(split(3, 0, 1) == VERMOLGAS_REFUSED_RANGE);
+    CHECK(blend.batch[0] == 0xAA && blend.batch[least - 1] == 0xAA);
+}
+
 static const struct group groups[] = {
     {"reset", reset_controllers},     {"packets", send_packets},           {"packets refused", refuse_sent_packets},
     {"reading", read_packets},        {"reading refused", refuse_packets}, {"making", make_packets},
     {"replies", read_replies},        {"checksums", compare_checksums},    {"plans", plan_uploads},
-    {"room and choices", fill_rooms}, {"plans refused", refuse_plans},
+    {"room and choices", fill_rooms}, {"plans refused", refuse_plans},     {"pairs", send_pairs},
+    {"pairs refused", refuse_pairs},  {"compressing", compress_gains},     {"compressing refused", refuse_gains},
+    {"splitting", split_pairs},       {"splitting refused", refuse_splits},
 };
 
 int main(void)

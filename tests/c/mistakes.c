@@ -8,6 +8,7 @@ struct vermolgas_device device;
 struct vermolgas_upload upload;
 struct vermolgas_reply reply;
 struct vermolgas_walk walk;
+struct vermolgas_blend blend;
 struct vermolgas_point point;
 uint8_t bytes[VERMOLGAS_LONGEST];
 uint16_t gains[1];
@@ -28,6 +29,8 @@ void mistakes(void)
     vermolgas_make(0x11, 0, bytes, 1, bytes, sizeof bytes);                    /* caught */
     vermolgas_read_reply(bytes, 3, 0);                                         /* caught */
     vermolgas_plan(1, NULL, 0, NULL, 0, NULL, 0, NULL, 0, NULL, 0, NULL, 0);   /* caught */
+    vermolgas_compress(NULL, 0, NULL, 0);                                      /* caught */
+    vermolgas_split(1, 0, NULL, 0, NULL, 0);                                   /* caught */
     vermolgas_refusal_text(1);                                                 /* caught */
     vermolgas_device_reset(&device);                                           /* caught */
     vermolgas_device_send(&device, bytes, 3, &reply);                          /* caught */
@@ -53,6 +56,8 @@ void mistakes(void)
     vermolgas_upload_plan(&upload, 1);                                         /* caught */
     vermolgas_upload_walk(&upload);                                            /* caught */
     vermolgas_walk_next(&walk);                                                /* caught */
+    vermolgas_blend_pack(&blend, VERMOLGAS_GAIN_ALL, 0, gains, 1);             /* caught */
+    vermolgas_blend_packet(&blend, 0);                                         /* caught */
 #endif
 
 #ifdef KEPT_IN_AN_INT
@@ -66,6 +71,8 @@ void mistakes(void)
     int narrow = VERMOLGAS_CAST(int, answer);
     bytes[0] = VERMOLGAS_STATUS(narrow) == 1;                                  /* caught */
     bytes[0] = VERMOLGAS_READ_LENGTH(VERMOLGAS_STATUS(answer)) == 1;           /* caught */
+    bytes[0] = VERMOLGAS_COMPRESS_PAIRS(narrow) == 1;                          /* caught */
+    bytes[0] = VERMOLGAS_SPLIT_BYTES(narrow) == 1;                             /* caught */
     bytes[0] = VERMOLGAS_READ_LENGTH(answer) == 1;
 #endif
 
@@ -87,12 +94,14 @@ void mistakes(void)
 #ifdef SWAPPED
     status = vermolgas_upload_start(&device, &upload);                         /* caught */
     status = vermolgas_device_reset(&upload);                                  /* caught */
+    status = vermolgas_blend_pack(&upload, VERMOLGAS_GAIN_ALL, 0, gains, 1);   /* caught */
     status = vermolgas_upload_start(&upload, &device);
 #endif
 
 #ifdef OTHER_NAMES
     bytes[0] = vermolgas_make_curtain(VERMOLGAS_DISPLAY_SPLASH, 0).status != 0; /* caught */
     bytes[0] = vermolgas_make_read(VERMOLGAS_GAIN_RED, 0).status != 0;         /* caught */
+    status = vermolgas_blend_pack(&blend, VERMOLGAS_CURTAIN_RED, 0, gains, 1); /* caught */
     bytes[0] = vermolgas_make_curtain(VERMOLGAS_CURTAIN_RED, 0).status != 0;
 #endif
 }

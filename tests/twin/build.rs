@@ -4,8 +4,15 @@
 use std::env;
 use std::path::PathBuf;
 
-const CALLERS: [&str; 5] =
-    ["compare_packets", "compare_sessions", "compare_planning", "bench_front_end", "bench_planning"];
+const CALLERS: [&str; 7] = [
+    "compare_packets",
+    "compare_sessions",
+    "compare_planning",
+    "compare_gains",
+    "bench_front_end",
+    "bench_planning",
+    "bench_gains",
+];
 
 fn main() {
     let folder = env::var_os("VERMOLGAS_LIB").map_or_else(

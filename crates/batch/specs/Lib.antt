@@ -1,3 +1,4 @@
--- Packets of a plan, written one behind the other into a batch.
+-- Packets, written one behind the other into a batch.
+pub mod Pairs
 pub mod Writing
 pub mod Internal

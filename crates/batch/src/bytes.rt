@@ -1,7 +1,7 @@
 // Packets of lists that are lent as their bytes: numbers are copied as they lie.
 ghost use mathlib.Core.Path.{_≡_};
 ghost use Rattle.wire.specs.Tables.{words};
-ghost use Rattle.batch.specs.Writing.{PacketFits, PacketPut};
+ghost use Rattle.batch.specs.Writing.{PacketFits, PacketPut, PairsFit, PairsPut};
 ghost use Rattle.batch.specs.Internal.{Put, behind, partBytes, PartFits};
 use crate::Batch;
 
@@ -44,6 +44,38 @@ pub fn put_packet(
     let batch = words(
         crate::word(crate::head(crate::open(buffer, filled), 0x34, size), start),
         wanted,
+        from,
+        n,
+    );
+    batch.filled
+}
+
+// One 2Bh packet of compressed gains behind what is filled, n words of the pairs from a place on: how much is filled then.
+pub fn put_pairs(
+    buffer: &mut [u8],
+    filled: usize,
+    pairs: &[u8],
+    from: usize,
+    n: usize,
+    colour: usize,
+    start: usize,
+) -> usize
+    requires { ⌜ PairsFit 2 (now buffer) filled (now pairs) from n colour start ⌝ }
+    ensures { λ r.
+        ⌜ PairsPut (now (buffer .entry)) filled (words (now (pairs .entry))) from n colour start r (now (buffer .exit)) ⌝ }
+{
+    let size = 6 + 2 * n;
+    // Flag 1 and the colour.
+    let kind = 1 + 256 * colour;
+    let batch = words(
+        crate::word(
+            crate::word(
+                crate::word(crate::head(crate::open(buffer, filled), 0x2B, size), kind),
+                n,
+            ),
+            start,
+        ),
+        pairs,
         from,
         n,
     );

@@ -1,5 +1,5 @@
 // Reads each bench packet of rule 8.1, says what it found, and makes the packet again from its reading; then plans the uploads of
-// the bench maps.
+// the bench maps, and compresses and splits gains.
 use packet::Reading;
 use planning::Answer;
 ghost use Prim.Native.Nat.{_<_};
@@ -14,6 +14,8 @@ fn main() {
     present(b"\x0C\x11\x00\x01");
     present(b"\x24\x11\x01\x8F");
     present(b"\x24\x11\x01\x36");
+    present(b"\x60");
+    present(b"\x04\x10\x00");
     present(b"\x03\x11\x01");
     present(b"\x14\x11\x02\x00\x01");
     present(b"\x04\x11\x05");
@@ -27,9 +29,27 @@ fn main() {
     // Refusal 12 comes after reading, which takes this one.
     present(b"\x14\x34\x06\x00\xC0\x07\x01\x00\x02\x00");
     present(b"\x14\x2B\x08\x00\x00\x01\x01\x00\xDF\x07\x00\x14");
+    present(b"\x14\x2B\x0A\x00\x01\x01\x02\x00\xDE\x07\x02\x00\x00\x14");
+    present(b"\x14\x2B\x0A\x00\x01\x01\x02\x00\xDF\x07\x02\x00\x00\x14");
+    present(b"\x14\x2B\x0A\x00\x01\x01\x02\x00\xDE\x07\x00\x00\x00\x14");
+    present(b"\x14\x2B\x08\x00\x01\x01\x01\x00\x00\x00\x02\x00");
+    present(b"\x14\x2B\x08\x00\x02\x01\x01\x00\x00\x00\x02\x00");
+    present(b"\x14\x2B\x06\x00\x01\x01\x00\x00\x00\x00");
+    present(b"\x14\x2B\x0A\x00\x01\x01\x02\x00\x00\x00\x01\x00\x00\x20");
+    present(b"\x14\x2B\x0A\x00\x01\x01\x02\x00\x00\x00\xE1\x07\x00\x14");
+    present(b"\x14\x2B\x0A\x00\x01\x04\x02\x00\x00\x00\x01\x00\x00\x14");
+    present(b"\x14\x2B\x0E\x00\x01\x02\x04\x00\x03\x00\x02\x00\x00\x14\x01\x00\xFF\x1F");
+    // The guide's example of compressed gains, with its length field: its first two pairs, the second of them 0 of 63; then all of it.
+    present(b"\x54\x2B\x0E\x00\x01\x00\x04\x00\x00\x00\x3F\x00\x00\x10\x00\x00\x3F\x00");
+    present(
+        b"\x54\x2B\x86\x00\x01\x00\x40\x00\x00\x00\x3F\x00\x00\x10\x00\x00\x3F\x00\x00\x00\x3F\x00\x00\x00\x3F\x00\x00\x00\x3F\x00\x00\x00\x3F\x00\x00\x00\x3F\x00\x00\x00\x3F\x00\x00\x00\x3F\x00\x00\x00\x3F\x00\x00\x00\x3F\x00\x00\x00\x3F\x00\x00\x00\x3F\x00\x00\x00\x3F\x00\x00\x00\x3F\x00\x00\x00\x3F\x00\x3F\x00\x7F\x0F\x3F\x00\x75\x0E\x3F\x00\x6C\x0D\x3F\x00\x6A\x0C\x3F\x00\x60\x0B\x3F\x00\x57\x0A\x3F\x00\x4D\x09\x3F\x00\x44\x08\x3F\x00\x42\x07\x3F\x00\x38\x06\x3F\x00\x2F\x05\x3F\x00\x25\x04\x3F\x00\x1C\x03\x3F\x00\x1A\x02\x3F\x00\x11\x01\x3F\x00\x07\x00",
+    );
     // Points 0 and 2 differ; points 0 and 3 differ.
     present_plan(&[0, 0, 0, 0, 0, 0, 0, 0], &[1, 2, 0, 0, 3, 4, 0, 0]);
     present_plan(&[0, 0, 0, 0, 0, 0, 0, 0], &[1, 2, 0, 0, 0, 0, 3, 4]);
+    present_gains(&[5, 5, 5, 7, 8191, 8191, 0], 2009);
+    present_gains(&[5, 5, 5, 7, 8191, 8191, 0], 2010);
+    present_gains(&[8192], 0);
     io::write_all(
         1,
         b"lengths and points that planning refuses, and two that it takes\n",
@@ -59,6 +79,26 @@ fn present_plan(held: &[u16], wanted: &[u16]) {
     io::write_all(1, b"\n");
     show_packets(&batch, bytes);
     show_rooms(&room, &choices);
+}
+
+// Gains of blue from a start on, as 16-bit numbers: how many pairs they are, and the packets of these.
+fn present_gains(gains: &[u16], start: u32) {
+    let mut pairs = [0u16; compress::PAIRS_ROOM];
+    let c = compress::numbers::compress(gains, &mut pairs);
+    print_number(b"gains: status ", c.status as u64);
+    print_number(b", pairs ", c.pairs as u64);
+    let n = 2 * c.pairs;
+    present_split(start, &pairs[..n]);
+}
+
+fn present_split(start: u32, pairs: &[u16]) {
+    let mut batch = [0u8; split::BATCH_ROOM];
+    let s = split::numbers::split(3, start, pairs, &mut batch);
+    print_number(b"; split: status ", s.status as u64);
+    print_number(b", packets ", s.packets as u64);
+    print_number(b", bytes ", s.bytes as u64);
+    io::write_all(1, b"\n");
+    show_packets(&batch, s.bytes);
 }
 
 // The room's numbers and the choices of four points and of one behind them.

@@ -8,16 +8,17 @@ use Rattle.wire.specs.Checksum.{checksum}
 use Rattle.wire.specs.Buffers.{over}
 use Rattle.opcode.proofs.Table.{and-left, and-right}
 use Rattle.runs.specs.Gains.{firstLarge}
+use Rattle.runs.specs.Pairs.{expand, sumRuns, pairFault}
 use Rattle.opcode.specs.Fields.{fault, wordsAt, riseFrom, rise}
 use Rattle.opcode.specs.Commands.{commandOf}
 use Rattle.opcode.specs.Judgement.{judgement, pointsSizeWrong, gainsSizeWrong, controlSizeWrong, smoothSizeWrong, sizeWrong}
-use Rattle.opcode.specs.Judgement.{gainsFault, listsFault, controlFault, smoothFault, valueFault}
+use Rattle.opcode.specs.Judgement.{wordsFault, gainsFault, listsFault, controlFault, smoothFault, valueFault}
 use Rattle.reply.specs.Reply.{replyBytes}
 use Rattle.settings.specs.Layout.{placeOf}
 use Rattle.settings.specs.Ranges.{pictureFields, deviceFields, right, shapeRight, settingsRight}
 use Rattle.settings.specs.Reset.{resetShape, resetBlock, resetMap, resetGains}
 use Rattle.controller.specs.State.{State, state, lengthsRight, stopped}
-use Rattle.controller.specs.Commands.{writeGains, readGains, readPoints, shapeBytes, writeShape, readShape, applyBlock, applyLive}
+use Rattle.controller.specs.Commands.{colourInto, readGains, readPoints, shapeBytes, writeShape, readShape, applyBlock, applyLive}
 use Rattle.controller.specs.Commands.{writeSmooth, readSmooth, blockAfter, written, blockBack, dataBack, runsPast}
 use Rattle.controller.specs.Step.{Out, out, numberOf, replyTo, step}
 use Rattle.controller.specs.Calls.{stateAfterAll}
@@ -70,7 +71,7 @@ allHold [] = true
 allHold (r ∷ rs) = holds r && allHold rs
 
 all-hold : T (allHold rows)
-unfolding checksum over fault wordsAt riseFrom rise firstLarge commandOf judgement pointsSizeWrong gainsSizeWrong controlSizeWrong smoothSizeWrong sizeWrong gainsFault listsFault controlFault smoothFault valueFault replyBytes placeOf pictureFields deviceFields right shapeRight settingsRight resetShape resetBlock resetMap resetGains stopped writeGains readGains readPoints shapeBytes writeShape readShape applyBlock applyLive writeSmooth readSmooth blockAfter written blockBack dataBack runsPast numberOf replyTo step stateAfterAll packetOf differs best rooms more choices firsts planFrom planOf packetFor packetsOf joined batchOf planNumbers planned
+unfolding checksum over fault wordsAt riseFrom rise firstLarge expand sumRuns pairFault commandOf judgement pointsSizeWrong gainsSizeWrong controlSizeWrong smoothSizeWrong sizeWrong wordsFault gainsFault listsFault controlFault smoothFault valueFault replyBytes placeOf pictureFields deviceFields right shapeRight settingsRight resetShape resetBlock resetMap resetGains stopped colourInto readGains readPoints shapeBytes writeShape readShape applyBlock applyLive writeSmooth readSmooth blockAfter written blockBack dataBack runsPast numberOf replyTo step stateAfterAll packetOf differs best rooms more choices firsts planFrom planOf packetFor packetsOf joined batchOf planNumbers planned
 all-hold = tt
 
 -- ---- What it tells.

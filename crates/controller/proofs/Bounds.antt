@@ -15,8 +15,10 @@ use Rattle.wire.proofs.Tables.{length-pairs}
 use Rattle.opcode.specs.declared.Field.{Field}
 use Rattle.opcode.specs.Fields.{takes, number}
 use Rattle.opcode.specs.Options.{optionsIn, isRead}
+use Rattle.runs.specs.Pairs.{expand, sumRuns}
+use Rattle.runs.proofs.Expand.{length-expand}
 use Rattle.opcode.specs.Commands.{commandOf}
-use Rattle.opcode.specs.Judgement.{judgement}
+use Rattle.opcode.specs.Judgement.{inPairs, judgement}
 use Rattle.opcode.specs.Allowed.{WriteData, ReadData}
 use Rattle.wire.proofs.Tests.{first-silent, silent-first, first-after, and-left, and-right, told}
 use Rattle.opcode.proofs.Accepts.Fields.{All, takes-within}
@@ -29,7 +31,7 @@ use Rattle.packet.proofs.Frames.{standing}
 use Rattle.settings.specs.Layout.{updatePlace}
 use Rattle.settings.specs.Layout.{columnsAt, rowsAt, stagedShape, enable, liveShape, smoothTable}
 use Rattle.settings.specs.Ranges.{right, fieldsOf, pictureFields, deviceFields, shapeRight, settingsRight}
-use Rattle.controller.specs.Commands.{runsPast, third}
+use Rattle.controller.specs.Commands.{runsPast, third, gainsWords, gainsSent, gainsCount}
 use Rattle.controller.specs.Step.{reads, readAndPlaced, decision}
 use Rattle.controller.specs.Internal.{PointsWrite, PointsRead, GainsWrite, GainsRead}
 
@@ -271,6 +273,14 @@ points-read o d block h e past right =
     points-size : {d : List ℕ} → ReadData 0x34 d → (length d ≡ 4) × (wordAt d 2 ≤ 127)
     points-size (ReadData.points k l) = omega arith
 
+-- As many gains as the count says, or the runs.
+sent-long : (d : List ℕ) → length d ≡ 6 + 2 * wordAt d 2 → length (gainsSent d) ≡ gainsCount false d
+sent-long d e = go (inPairs d)
+  where
+    go : (flag : Bool) → length (cond flag (expand (gainsWords d)) (gainsWords d)) ≡ cond flag (sumRuns (gainsWords d)) (wordAt d 2)
+    go true = length-expand (gainsWords d)
+    go false = length-pairs 256 (drop 6 d) ∙ rw length-drop (omega arith)
+
 pub gains-write : (o : ℕ) (d block : List ℕ) → isRead o ≡ 0 → first (judgement 0x2B o d) ≡ 0
     → runsPast 0x2B (eqb (isRead o) 1) d block ≡ false → GainsWrite d
 unfolding runsPast
@@ -278,13 +288,14 @@ gains-write o d block h e past =
     let size = gains-size (write-data 0x2B o d h e) in
     record {
       sized = size .0;
-      numbers = length-pairs 256 (drop 6 d) ∙ rw length-drop (omega (arith, size .0));
+      numbers = sent-long d (size .0);
       colour = size .1;
-      ends = ltb-false third (wordAt d 4 + wordAt d 2) (rw h at past);
+      ends = ltb-false third (wordAt d 4 + gainsCount false d) (rw h at past);
     }
   where
     gains-size : {d : List ℕ} → WriteData 0x2B d → (length d ≡ 6 + 2 * wordAt d 2) × (byteAt d 1 ≤ 3)
     gains-size (WriteData.gains k l m n) = omega arith
+    gains-size (WriteData.runs k l m n) = omega arith
 
 pub gains-read : (o : ℕ) (d block : List ℕ) → isRead o ≡ 1 → first (judgement 0x2B o d) ≡ 0
     → runsPast 0x2B (eqb (isRead o) 1) d block ≡ false → GainsRead d

@@ -8,9 +8,12 @@ use mathlib.Core.List.{List, [], _∷_, _++_}
 use native.Mathlib.Omega.{arith}
 use native.Mathlib.Decide.{ℕ-discrete}
 use borrow.Author.Tests.{eq-eqb, ne-eqb, le-leb, ltb-false, le-ltb}
-use lib.ListN.{length, getD}
+use lib.ListN.{length, getD, drop}
 use lib.Seq.{drop-at}
 use lib.Dec.{eqb}
+use Rattle.wire.specs.Numbers.{byteAt}
+use Rattle.wire.specs.Tables.{words}
+use Rattle.runs.proofs.Expand.{length-expand}
 use Rattle.wire.specs.First.{first}
 use Rattle.wire.specs.Buffers.{over}
 use Rattle.opcode.specs.Options.{hasSum, isRead}
@@ -49,7 +52,7 @@ numbered : (p : List ℕ) (s : State) (reply : List ℕ) → Numbered (stepRefus
 unfolding judgement
 numbered p s reply = omega arith
 
-refusals-numbered : (p : List ℕ) → Numbered (refusals p)
+pub refusals-numbered : (p : List ℕ) → Numbered (refusals p)
 unfolding judgement
 refusals-numbered p = omega arith
 
@@ -99,7 +102,11 @@ placed p block e =
     record {
       points-written = λ o r. ltb-false _ _ (rw (eq-eqb (opcodeOf p) 0x34 o, write r) at e);
       points-read = λ o r. ltb-false _ _ (rw (eq-eqb (opcodeOf p) 0x34 o, eq-eqb (isRead (headerOf p)) 1 r) at e);
-      gains-written = λ o r. ltb-false _ _ (rw (gains-34 o, eq-eqb (opcodeOf p) 0x2B o, write r) at e);
+      gains-written = λ o r f.
+          ltb-false _ _ (rw (gains-34 o, eq-eqb (opcodeOf p) 0x2B o, write r, ne-eqb (byteAt (dataOf p) 0) 1 f) at e);
+      runs-written = λ o r f.
+          rw (length-expand (words (drop 6 (dataOf p))))
+          (ltb-false _ _ (rw (gains-34 o, eq-eqb (opcodeOf p) 0x2B o, write r, eq-eqb (byteAt (dataOf p) 0) 1 f) at e));
       gains-read = λ o r. ltb-false _ _ (rw (gains-34 o, eq-eqb (opcodeOf p) 0x2B o, eq-eqb (isRead (headerOf p)) 1 r) at e);
     }
   where
@@ -126,7 +133,12 @@ fits p block h =
                 rw (eq-eqb (opcodeOf p) 0x2B g)
                 (elim (ℕ-discrete (isRead (headerOf p)) 1) [
                   | yes r ↦ rw (eq-eqb (isRead (headerOf p)) 1 r) (le-ltb _ _ (h .gains-read g r))
-                  | no r ↦ rw (ne-eqb (isRead (headerOf p)) 1 r) (le-ltb _ _ (h .gains-written g (omega arith)))
+                  | no r ↦
+                      rw (ne-eqb (isRead (headerOf p)) 1 r)
+                      (elim (ℕ-discrete (byteAt (dataOf p) 0) 1) [
+                        | yes f ↦ rw (eq-eqb (byteAt (dataOf p) 0) 1 f) (le-ltb _ _ (rw (length-expand (words (drop 6 (dataOf p)))) at (h .runs-written g (omega arith) f)))
+                        | no f ↦ rw (ne-eqb (byteAt (dataOf p) 0) 1 f) (le-ltb _ _ (h .gains-written g (omega arith) f))
+                      ])
                 ])
             | no g ↦ rw (ne-eqb (opcodeOf p) 0x2B g)
           ])

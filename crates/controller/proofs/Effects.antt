@@ -1,8 +1,8 @@
 -- The front end's definitions leave and return what the rules' rows say.
-use Prim.Native.Nat.{ℕ, zero, suc, _+_, _*_}
+use Prim.Native.Nat.{ℕ, zero, suc, _+_, _*_, _≤_}
 use mathlib.Core.Logic.{_⊎_, inl, inr, ⊎-elim}
 use mathlib.Core.Path.{_≡_, refl}
-use mathlib.Core.List.{List, []}
+use mathlib.Core.List.{List, [], _∷_}
 use native.Mathlib.Omega.{arith}
 use Rattle.wire.specs.Numbers.{byteAt, wordAt}
 use Rattle.opcode.specs.Options.{isRead}
@@ -13,12 +13,12 @@ use Rattle.settings.specs.Layout.{lockPlace, updatePlace}
 use Rattle.settings.specs.Layout.{placeOf}
 use Rattle.settings.proofs.Fits.{own-slot}
 use Rattle.controller.specs.State.{State}
-use Rattle.controller.specs.Commands.{writeGains, readGains, readPoints, shapeBytes, writeShape, readShape, applyBlock, applyLive}
+use Rattle.controller.specs.Commands.{colourInto, readGains, readPoints, shapeBytes, writeShape, readShape, applyBlock, applyLive}
 use Rattle.controller.specs.Commands.{writeSmooth, readSmooth, blockAfter, written, blockBack, dataBack}
-use Rattle.controller.specs.Effects.{Leaves, Returns}
+use Rattle.controller.specs.Effects.{StandFor, Leaves, Returns}
 
 pub leaves : {s : State} {op : ℕ} {d : List ℕ} {t : State} → Leaves s op d t → written op d s ≡ t
-unfolding written blockAfter writeShape shapeBytes applyBlock applyLive writeSmooth writeGains commandOf placeOf
+unfolding written blockAfter writeShape shapeBytes applyBlock applyLive writeSmooth colourInto commandOf placeOf
 leaves {d = d} Leaves.display = let here : 0 + 0 * byteAt d 0 ≡ 0 = omega arith in rw here
 leaves {d = d} Leaves.latency = let here : 1 + 0 * byteAt d 0 ≡ 1 = omega arith in rw here
 leaves {d = d} Leaves.look = let here : 2 + 0 * byteAt d 0 ≡ 2 = omega arith in rw here
@@ -39,10 +39,14 @@ leaves Leaves.lists = refl
 leaves Leaves.apply = refl
 leaves Leaves.clear = refl
 leaves Leaves.smooth = refl
-leaves {d = d} Leaves.red = let here : 0 + wordAt d 4 ≡ wordAt d 4 = omega arith in rw here
-leaves Leaves.green = refl
-leaves Leaves.blue = refl
-leaves Leaves.all = refl
+leaves {d = d} (Leaves.red StandFor.plain) = let here : 0 + wordAt d 4 ≡ wordAt d 4 = omega arith in rw here
+leaves {d = d} (Leaves.red StandFor.pairs) = let here : 0 + wordAt d 4 ≡ wordAt d 4 = omega arith in rw here
+leaves (Leaves.green StandFor.plain) = refl
+leaves (Leaves.green StandFor.pairs) = refl
+leaves (Leaves.blue StandFor.plain) = refl
+leaves (Leaves.blue StandFor.pairs) = refl
+leaves (Leaves.all StandFor.plain) = refl
+leaves (Leaves.all StandFor.pairs) = refl
 
 pub returns : {s : State} {op : ℕ} {d back : List ℕ} → Returns s op d back → dataBack op d s ≡ back
 unfolding dataBack blockBack readShape readSmooth readGains readPoints commandOf placeOf
@@ -75,6 +79,14 @@ pub record SomeLeft (s : State) (op : ℕ) (d : List ℕ) : Type 0 where
   pub after : State
   pub by : Leaves s op d after
 
+colour-left : {flag colour n₀ n₁ s₀ s₁ : ℕ} {ws new : List ℕ} (s : State) → colour ≤ 3 → StandFor flag ws new
+    → SomeLeft s 0x2B (flag ∷ colour ∷ n₀ ∷ n₁ ∷ s₀ ∷ s₁ ∷ ws)
+colour-left {colour = zero} s h f = record { after = _; by = Leaves.all f }
+colour-left {colour = suc zero} s h f = record { after = _; by = Leaves.red f }
+colour-left {colour = suc (suc zero)} s h f = record { after = _; by = Leaves.green f }
+colour-left {colour = suc (suc (suc zero))} s h f = record { after = _; by = Leaves.blue f }
+colour-left {colour = suc (suc (suc (suc c)))} s h f = absurd (omega arith)
+
 pub some-left : {op : ℕ} {d : List ℕ} (s : State) → WriteData op d → SomeLeft s op d
 some-left s (WriteData.display h) = record { after = _; by = Leaves.display }
 some-left s (WriteData.latency h) = record { after = _; by = Leaves.latency }
@@ -98,11 +110,8 @@ some-left s (WriteData.apply {v = zero} h) = record { after = _; by = Leaves.cle
 some-left s (WriteData.apply {v = suc zero} h) = record { after = _; by = Leaves.apply }
 some-left s (WriteData.apply {v = suc (suc v)} h) = absurd (omega arith)
 some-left s (WriteData.smooth h i j k e) = record { after = _; by = Leaves.smooth }
-some-left s (WriteData.gains {colour = zero} h i e w) = record { after = _; by = Leaves.all }
-some-left s (WriteData.gains {colour = suc zero} h i e w) = record { after = _; by = Leaves.red }
-some-left s (WriteData.gains {colour = suc (suc zero)} h i e w) = record { after = _; by = Leaves.green }
-some-left s (WriteData.gains {colour = suc (suc (suc zero))} h i e w) = record { after = _; by = Leaves.blue }
-some-left s (WriteData.gains {colour = suc (suc (suc (suc c)))} h i e w) = absurd (omega arith)
+some-left s (WriteData.gains h i e w) = colour-left s h StandFor.plain
+some-left s (WriteData.runs h i e w) = colour-left s h StandFor.pairs
 
 pub record SomeReturned (s : State) (op : ℕ) (d : List ℕ) : Type 0 where
   pub back : List ℕ

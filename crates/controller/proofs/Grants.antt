@@ -7,13 +7,18 @@ use mathlib.Core.List.{List, []}
 use native.Mathlib.Omega.{arith}
 use borrow.Author.Tests.{ne-eqb}
 use lib.ListN.{length, take, drop}
-use lib.Seq.{paste}
+use lib.Seq.{sets, paste}
 use Rattle.wire.specs.Buffers.{Overwrites}
+use Rattle.wire.specs.Numbers.{wordAt}
+use Rattle.wire.proofs.Copies.{sets-paste}
+use Rattle.runs.specs.Pairs.{expand, sumRuns}
+use Rattle.runs.proofs.Expand.{length-expand}
 use Rattle.opcode.specs.Options.{isRead, hasSum, optionsIn}
+use Rattle.opcode.specs.Judgement.{inPairs}
 use Rattle.packet.specs.Frame.{headerOf}
 use Rattle.packet.specs.Reading.{Answer, commandAt, refusedBy}
 use Rattle.controller.specs.State.{State, state, stopped}
-use Rattle.controller.specs.Commands.{third, gainsColour, gainsStart, gainsPlace, gainsWords, writeGains, written, dataBack}
+use Rattle.controller.specs.Commands.{third, gainsColour, gainsStart, gainsPlace, gainsWords, gainsSent, gainsInto, colourInto, writeGains, written, dataBack}
 use Rattle.controller.specs.Step.{reads, decision, emptyReply, readReply, out, step}
 use Rattle.controller.specs.Internal.{Granted, PointsWrite, PointsRead, GainsWrite, GainsRead}
 use Rattle.controller.proofs.Bounds.{points-write, points-read, gains-write, gains-read, commanded, refused}
@@ -33,17 +38,43 @@ module _ (op o : ℕ) (d block : List ℕ) (g : Granted op o d block) where
   pub reads-gains : isRead o ≡ 1 → op ≡ 0x2B → GainsRead d
   reads-gains h e = gains-read o d block h (rw e at (g .judged)) (rw e at (g .fits))
 
+-- The gains that a write sends, by its flag, and how many they are.
+module _ (d : List ℕ) where
+  pub sent-pairs : inPairs d ≡ true → gainsSent d ≡ expand (gainsWords d)
+  sent-pairs e = rw e
+
+  pub sent-plain : inPairs d ≡ false → gainsSent d ≡ gainsWords d
+  sent-plain e = rw e
+
+  pub pairs-many : inPairs d ≡ true → length (gainsSent d) ≡ sumRuns (gainsWords d)
+  pairs-many e = rw (sent-pairs e) (length-expand (gainsWords d))
+
+  pub plain-many : inPairs d ≡ false → GainsWrite d → length (gainsSent d) ≡ wordAt d 2
+  plain-many e w = w .numbers ∙ rw e
+
+  -- As the code writes them, from a place on.
+  pub pairs-into : (gains : List ℕ) (place : ℕ) → inPairs d ≡ true → place + length (gainsSent d) ≤ length gains
+      → sets gains place (expand (gainsWords d)) ≡ gainsInto gains place (gainsSent d)
+  pairs-into gains place e h =
+      ap (sets gains place) (sym (sent-pairs e)) ∙ sets-paste gains place (gainsSent d) h
+
+  pub plain-into : (gains : List ℕ) (place n : ℕ) → inPairs d ≡ false → GainsWrite d → n ≡ wordAt d 2
+      → paste gains place (gainsWords d) n ≡ gainsInto gains place (gainsSent d)
+  plain-into gains place n e w m =
+      ap (paste gains place (gainsWords d)) (m ∙ sym (plain-many e w))
+      ∙ ap (λ (new : List ℕ). paste gains place new (length (gainsSent d))) (sym (sent-plain e))
+
 -- An accepted 2Bh write, as the code stores it: at its place, and for colour 0 a third and two thirds behind it too.
-module _ (d gains : List ℕ) (place n : ℕ) (here : place ≡ gainsPlace false d) (all : n ≡ length (gainsWords d)) where
-  pub gains-one : (gainsColour false d ≡ 0 → ⊥) → paste gains place (gainsWords d) n ≡ writeGains d gains
-  unfolding writeGains
-  gains-one some = rw (ne-eqb (gainsColour false d) 0 some, here, all)
+module _ (d gains : List ℕ) (place : ℕ) (here : place ≡ gainsPlace false d) where
+  pub gains-one : (gainsColour false d ≡ 0 → ⊥) → gainsInto gains place (gainsSent d) ≡ writeGains d gains
+  unfolding colourInto
+  gains-one some = rw (ne-eqb (gainsColour false d) 0 some, here)
 
   pub gains-three : gainsColour false d ≡ 0
-      → paste (paste (paste gains place (gainsWords d) n) (third + place) (gainsWords d) n) (2 * third + place) (gainsWords d) n
+      → gainsInto (gainsInto (gainsInto gains place (gainsSent d)) (third + place) (gainsSent d)) (2 * third + place) (gainsSent d)
       ≡ writeGains d gains
-  unfolding writeGains
-  gains-three none = let start : place ≡ gainsStart false d = omega arith in rw (none, start, all)
+  unfolding colourInto
+  gains-three none = let start : place ≡ gainsStart false d = omega arith in rw (none, start)
 
 -- A read does not look at the live map.
 abbrev withoutLive : State → State

@@ -33,7 +33,7 @@ use Rattle.settings.specs.Ranges.{right, fieldsOf, rising, shapeRight, settings
 use Rattle.settings.proofs.Same.{widths, right-same, words-same, shape-same}
 use Rattle.settings.proofs.Stays.{parts, whole, all-right, Framed, frame, stays}
 use Rattle.controller.specs.State.{State, replyRoom}
-use Rattle.controller.specs.Commands.{gainsWords, gainsInto, writeGains, shapeBytes, writeShape, applyBlock, applyLive, writeSmooth, blockAfter, written, runsPast, third}
+use Rattle.controller.specs.Commands.{gainsSent, gainsInto, colourInto, writeGains, shapeBytes, writeShape, applyBlock, applyLive, writeSmooth, blockAfter, written, runsPast, third}
 use Rattle.controller.specs.Step.{numberOf, replyTo, step}
 use Rattle.controller.specs.Internal.{PointsWrite, GainsWrite}
 use Rattle.controller.specs.Demands.{LentRight}
@@ -205,18 +205,21 @@ points-long d staged w l = length-paste staged (2 * startOf d) (pointsOf d) (len
 into-long : (gains : List ℕ) (place : ℕ) (ws : List ℕ) → length gains ≡ gainsSize → place + length ws ≤ gainsSize → length (gainsInto gains place ws) ≡ gainsSize
 into-long gains place ws l h = length-paste gains place ws (length ws) (omega arith) (omega arith) ∙ l
 
-gains-long : (d gains : List ℕ) → GainsWrite d → length gains ≡ gainsSize → length (writeGains d gains) ≡ gainsSize
-unfolding writeGains
-gains-long d gains w l =
-    let ws : List ℕ = gainsWords d in
-    let start : ℕ = wordAt d 4 in
-    elim (ℕ-discrete (byteAt d 1) 0) [
+-- A colour's gains from a start on lie within its third, and so within the table.
+pub colour-long : (colour start : ℕ) (new gains : List ℕ) → colour ≤ 3 → start + length new ≤ third → length gains ≡ gainsSize
+    → length (colourInto colour start new gains) ≡ gainsSize
+unfolding colourInto
+colour-long colour start new gains c h l =
+    elim (ℕ-discrete colour 0) [
       | yes z ↦
-          let one = into-long gains start ws l (omega arith) in
-          let two = into-long (gainsInto gains start ws) (third + start) ws one (omega arith) in
-          rw z (into-long (gainsInto (gainsInto gains start ws) (third + start) ws) (2 * third + start) ws two (omega arith))
-      | no z ↦ rw (ne-eqb (byteAt d 1) 0 z) (into-long gains (third * (byteAt d 1 - 1) + start) ws l (omega arith))
+          let one = into-long gains start new l (omega arith) in
+          let two = into-long (gainsInto gains start new) (third + start) new one (omega arith) in
+          rw z (into-long (gainsInto (gainsInto gains start new) (third + start) new) (2 * third + start) new two (omega arith))
+      | no z ↦ rw (ne-eqb colour 0 z) (into-long gains (third * (colour - 1) + start) new l (omega arith))
     ]
+
+gains-long : (d gains : List ℕ) → GainsWrite d → length gains ≡ gainsSize → length (writeGains d gains) ≡ gainsSize
+gains-long d gains w l = colour-long (byteAt d 1) (wordAt d 4) (gainsSent d) gains (w .colour) (omega (arith, w .numbers, w .ends)) l
 
 live-long : (d staged live : List ℕ) → length staged ≡ mapSize → length live ≡ mapSize → length (applyLive d staged live) ≡ mapSize
 unfolding applyLive

@@ -1,12 +1,14 @@
--- Rules 5.1 to 5.8: what each command does to a state, and what it returns, from its data; each a function of its own part of it.
+-- Rules 5.1 to 5.8 and 5.11: what each command does to a state, and what it returns, from its data; each a function of its own part of it.
 use Prim.Native.Nat.{ℕ, _+_, _-_, _*_}
-use mathlib.Core.Bool.{Bool, true, false, cond}
+use mathlib.Core.Bool.{Bool, true, false, cond, not, _&&_}
 use mathlib.Core.List.{List, [], _∷_, _++_}
 use lib.ListN.{length, take, drop}
 use lib.Seq.{paste}
 use lib.Dec.{eqb, ltb}
 use Rattle.wire.specs.Numbers.{byteAt, wordAt, wordBytes}
 use Rattle.wire.specs.Tables.{words, bytes}
+use Rattle.runs.specs.Pairs.{expand, sumRuns}
+use Rattle.opcode.specs.Judgement.{inPairs}
 use Rattle.packet.specs.Points.{writePoints, startOf, pointsOf, countOf}
 use Rattle.settings.specs.Layout.{stagedShape, shapeSize, shapeHead, enable, liveShape, smoothTable, stored, returned}
 use Rattle.settings.specs.Layout.{modeAt, columnsAt, rowsAt, columnList, columnEntries, rowEntries, listsSize}
@@ -25,18 +27,27 @@ gainsColour reads d = cond reads (byteAt d 0) (byteAt d 1)
 abbrev pub gainsStart : Bool → List ℕ → ℕ
 gainsStart reads d = cond reads (wordAt d 1) (wordAt d 4)
 
-abbrev pub gainsCount : Bool → List ℕ → ℕ
-gainsCount reads d = cond reads (wordAt d 3) (wordAt d 2)
+-- Rule 5.8: the count that a command sends.
+abbrev pub wordCount : Bool → List ℕ → ℕ
+wordCount reads d = cond reads (wordAt d 3) (wordAt d 2)
 
--- ---- 2Bh gains, rule 5.8: colour 1 red, 2 green, 3 blue, a third of the table each.
+-- Rule 5.8: the words of a write.
+abbrev pub gainsWords : List ℕ → List ℕ
+gainsWords d = words (drop 6 d)
+
+-- Rules 5.8 and 5.11: how many gains a command names: its count, or for a write of pairs the sum of their runs.
+abbrev pub gainsCount : Bool → List ℕ → ℕ
+gainsCount reads d = cond (not reads && inPairs d) (sumRuns (gainsWords d)) (wordCount reads d)
+
+-- ---- 2Bh gains, rules 5.8 and 5.11: colour 1 red, 2 green, 3 blue, a third of the table each.
 
 -- Rule 5.8: the gains of one colour.
 abbrev pub third : ℕ
 third = 2016
 
--- Rule 5.8: the words of a write.
-abbrev pub gainsWords : List ℕ → List ℕ
-gainsWords d = words (drop 6 d)
+-- Rules 5.8 and 5.11: the gains that a write sends: its words, or what its pairs stand for.
+abbrev pub gainsSent : List ℕ → List ℕ
+gainsSent d = cond (inPairs d) (expand (gainsWords d)) (gainsWords d)
 
 -- Rule 5.8: where a colour's gains from a start on stand; of colour 0, the first of its three places.
 abbrev pub colourPlace : ℕ → ℕ → ℕ
@@ -48,15 +59,16 @@ gainsPlace reads d = colourPlace (gainsColour reads d) (gainsStart reads d)
 abbrev pub gainsInto : List ℕ → ℕ → List ℕ → List ℕ
 gainsInto gains place ws = paste gains place ws (length ws)
 
--- Rule 5.8: colour 0 writes the same words into all three thirds.
-unfoldable pub writeGains : List ℕ → List ℕ → List ℕ
-writeGains d gains =
-    cond (eqb (gainsColour false d) 0)
-    (gainsInto
-    (gainsInto (gainsInto gains (gainsStart false d) (gainsWords d)) (third + gainsStart false d) (gainsWords d))
-    (2 * third + gainsStart false d)
-    (gainsWords d))
-    (gainsInto gains (gainsPlace false d) (gainsWords d))
+-- Rule 5.8: gains for a colour, from a start on; colour 0 has the same gains in all three thirds.
+unfoldable pub colourInto : ℕ → ℕ → List ℕ → List ℕ → List ℕ
+colourInto colour start new gains =
+    cond (eqb colour 0)
+    (gainsInto (gainsInto (gainsInto gains start new) (third + start) new) (2 * third + start) new)
+    (gainsInto gains (colourPlace colour start) new)
+
+-- Rules 5.8 and 5.11.
+abbrev pub writeGains : List ℕ → List ℕ → List ℕ
+writeGains d gains = colourInto (gainsColour false d) (gainsStart false d) (gainsSent d) gains
 
 -- Rule 5.8: a read returns so many words.
 unfoldable pub readGains : List ℕ → List ℕ → List ℕ
@@ -148,7 +160,7 @@ unfoldable pub dataBack : ℕ → List ℕ → State → List ℕ
 dataBack op d s =
     cond (eqb op 0x2B) (readGains d (s .gains)) (cond (eqb op 0x34) (readPoints d (s .staged)) (blockBack op d (s .block)))
 
--- ---- Refusal 12, rule 4.3: start + count goes past the staged shape's points (rule 5.4) or a colour's gains (rule 5.8).
+-- ---- Refusal 12, rule 4.3: start + count goes past the staged shape's points (rule 5.4) or a colour's gains (rules 5.8 and 5.11).
 
 -- Rule 5.4: the bound is the shape's, at most 62 × 32.
 abbrev pub points : List ℕ → ℕ

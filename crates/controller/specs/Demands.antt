@@ -11,6 +11,8 @@ use lib.Dec.{eqb}
 use Rattle.wire.specs.First.{first}
 use Rattle.wire.specs.Buffers.{over}
 use Rattle.wire.specs.Numbers.{byteAt, wordAt}
+use Rattle.wire.specs.Tables.{words}
+use Rattle.runs.specs.Pairs.{expand}
 use Rattle.opcode.specs.Options.{hasSum, asksReply, isRead}
 use Rattle.opcode.specs.Allowed.{two}
 use Rattle.packet.specs.Frame.{headerOf, opcodeOf, dataOf}
@@ -51,11 +53,15 @@ stagedPoints block = two (getD block 9 0) (getD block 10 0) * two (getD block 11
 abbrev pub pointsEnd : List ℕ → ℕ
 pointsEnd p = wordAt (dataOf p) 0 + (length (dataOf p) - 2) / 4
 
--- Rules 5.4 and 5.8: start and count lie within their table: 34h within the staged shape's points, 2Bh within a colour's gains.
+-- Rules 5.4, 5.8 and 5.11: start and count lie within their table: 34h within the staged shape's points, 2Bh within a colour's gains, where pairs
+-- (compression 1) count as many as the gains that they stand for.
 pub record Placed (p : List ℕ) (block : List ℕ) : Type 0 where
   pub points-written : opcodeOf p ≡ 0x34 → isRead (headerOf p) ≡ 0 → pointsEnd p ≤ stagedPoints block
   pub points-read : opcodeOf p ≡ 0x34 → isRead (headerOf p) ≡ 1 → wordAt (dataOf p) 0 + wordAt (dataOf p) 2 ≤ stagedPoints block
-  pub gains-written : opcodeOf p ≡ 0x2B → isRead (headerOf p) ≡ 0 → wordAt (dataOf p) 4 + wordAt (dataOf p) 2 ≤ 2016
+  pub gains-written : opcodeOf p ≡ 0x2B → isRead (headerOf p) ≡ 0 → (byteAt (dataOf p) 0 ≡ 1 → ⊥)
+      → wordAt (dataOf p) 4 + wordAt (dataOf p) 2 ≤ 2016
+  pub runs-written : opcodeOf p ≡ 0x2B → isRead (headerOf p) ≡ 0 → byteAt (dataOf p) 0 ≡ 1
+      → wordAt (dataOf p) 4 + length (expand (words (drop 6 (dataOf p)))) ≤ 2016
   pub gains-read : opcodeOf p ≡ 0x2B → isRead (headerOf p) ≡ 1 → wordAt (dataOf p) 1 + wordAt (dataOf p) 3 ≤ 2016
 
 -- ---- Demand 1: which number is given, and that a refusal changes nothing (rules 3.2 and 4.1 to 4.3).
@@ -76,9 +82,9 @@ pub record Demand1 (p : List ℕ) (s : State) (reply : List ℕ) (o : Out) : Typ
   -- Rule 4.2: the reply buffer changes only where the reply is written.
   pub behind : drop (o .size) (o .reply) ≡ drop (o .size) reply
 
--- ---- Demand 2: which packets are accepted, and what they do (rules 5.1 to 5.9).
+-- ---- Demand 2: which packets are accepted, and what they do (rules 5.1 to 5.9 and 5.11).
 
--- Rules 2.1 to 5.9: when a packet is accepted: what is lent is right, its frame is sound and meant for us, its data is allowed, and its
+-- Rules 2.1 to 5.9 and 5.11: when a packet is accepted: what is lent is right, its frame is sound and meant for us, its data is allowed, and its
 -- start and count lie within their table.
 pub record Accepted (p : List ℕ) (s : State) (reply : List ℕ) : Type 0 where
   pub lent : LentRight s reply

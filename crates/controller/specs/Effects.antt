@@ -6,6 +6,7 @@ use mathlib.Core.List.{List, [], _∷_}
 use lib.ListN.{length, take, drop, getD}
 use lib.Seq.{paste}
 use Rattle.wire.specs.Tables.{words, bytes}
+use Rattle.runs.specs.Pairs.{expand}
 use Rattle.opcode.specs.Allowed.{two}
 use Rattle.controller.specs.State.{State, state}
 
@@ -18,6 +19,11 @@ stagedWith s at new = state (s .block) (paste (s .staged) at new (length new)) (
 
 abbrev pub gainsWith : State → ℕ → List ℕ → State
 gainsWith s at new = state (s .block) (s .staged) (s .live) (paste (s .gains) at new (length new))
+
+-- Rules 5.8 and 5.11: the compression flag, a write's words as bytes, and the gains that they stand for: themselves, or what pairs expand to.
+pub data StandFor : ℕ → List ℕ → List ℕ → Type 0 where
+  plain : {ws : List ℕ} → StandFor 0 ws (words ws)
+  pairs : {ws : List ℕ} → StandFor 1 ws (expand (words ws))
 
 -- Opcode, data, and the state that is left.
 pub data Leaves (s : State) : ℕ → List ℕ → State → Type 0 where
@@ -55,15 +61,15 @@ pub data Leaves (s : State) : ℕ → List ℕ → State → Type 0 where
   -- Rule 5.7.
   smooth : {d : List ℕ} → Leaves s 0x38 d (blockWith s 395 d)
   -- Rule 5.8: red, green and blue are a third of the gains each, and colour 0 is all three.
-  red : {n₀ n₁ s₀ s₁ : ℕ} {ws : List ℕ}
-      → Leaves s 0x2B (0 ∷ 1 ∷ n₀ ∷ n₁ ∷ s₀ ∷ s₁ ∷ ws) (gainsWith s (two s₀ s₁) (words ws))
-  green : {n₀ n₁ s₀ s₁ : ℕ} {ws : List ℕ}
-      → Leaves s 0x2B (0 ∷ 2 ∷ n₀ ∷ n₁ ∷ s₀ ∷ s₁ ∷ ws) (gainsWith s (2016 + two s₀ s₁) (words ws))
-  blue : {n₀ n₁ s₀ s₁ : ℕ} {ws : List ℕ}
-      → Leaves s 0x2B (0 ∷ 3 ∷ n₀ ∷ n₁ ∷ s₀ ∷ s₁ ∷ ws) (gainsWith s (4032 + two s₀ s₁) (words ws))
-  all : {n₀ n₁ s₀ s₁ : ℕ} {ws : List ℕ}
-      → Leaves s 0x2B (0 ∷ 0 ∷ n₀ ∷ n₁ ∷ s₀ ∷ s₁ ∷ ws)
-      (gainsWith (gainsWith (gainsWith s (two s₀ s₁) (words ws)) (2016 + two s₀ s₁) (words ws)) (4032 + two s₀ s₁) (words ws))
+  red : {flag n₀ n₁ s₀ s₁ : ℕ} {ws new : List ℕ} → StandFor flag ws new
+      → Leaves s 0x2B (flag ∷ 1 ∷ n₀ ∷ n₁ ∷ s₀ ∷ s₁ ∷ ws) (gainsWith s (two s₀ s₁) new)
+  green : {flag n₀ n₁ s₀ s₁ : ℕ} {ws new : List ℕ} → StandFor flag ws new
+      → Leaves s 0x2B (flag ∷ 2 ∷ n₀ ∷ n₁ ∷ s₀ ∷ s₁ ∷ ws) (gainsWith s (2016 + two s₀ s₁) new)
+  blue : {flag n₀ n₁ s₀ s₁ : ℕ} {ws new : List ℕ} → StandFor flag ws new
+      → Leaves s 0x2B (flag ∷ 3 ∷ n₀ ∷ n₁ ∷ s₀ ∷ s₁ ∷ ws) (gainsWith s (4032 + two s₀ s₁) new)
+  all : {flag n₀ n₁ s₀ s₁ : ℕ} {ws new : List ℕ} → StandFor flag ws new
+      → Leaves s 0x2B (flag ∷ 0 ∷ n₀ ∷ n₁ ∷ s₀ ∷ s₁ ∷ ws)
+      (gainsWith (gainsWith (gainsWith s (two s₀ s₁) new) (2016 + two s₀ s₁) new) (4032 + two s₀ s₁) new)
 
 -- So many bytes of the block from a place on.
 abbrev pub from-block : State → ℕ → ℕ → List ℕ

@@ -16,7 +16,7 @@ use Rattle.settings.specs.Ranges.{settingsRight}
 use Rattle.settings.specs.Reset.{mapSize, gainsSize}
 use Rattle.controller.specs.declared.Points.{Points}
 use Rattle.controller.specs.declared.Gains.{Gains}
-use Rattle.controller.specs.Commands.{pointCount, gainsColour, gainsStart, gainsCount, gainsPlace, runsPast, third, gainsWords}
+use Rattle.controller.specs.Commands.{pointCount, gainsColour, gainsStart, wordCount, gainsCount, gainsPlace, runsPast, third, gainsSent}
 
 -- What a 34h command names, of a read's data or a write's; no sum of it can wrap.
 pub record PointsNamed (reads : Bool) (d : List ℕ) (r : Points) : Type 0 where
@@ -29,7 +29,7 @@ pub record PointsNamed (reads : Bool) (d : List ℕ) (r : Points) : Type 0 where
 pub record GainsNamed (reads : Bool) (d : List ℕ) (r : Gains) : Type 0 where
   pub colour : r .colour ≡ gainsColour reads d
   pub start : r .start ≡ gainsStart reads d
-  pub count : r .count ≡ gainsCount reads d
+  pub count : r .count ≡ wordCount reads d
   pub place : r .place ≡ gainsPlace reads d
   pub start-small : r .start < 65536
   pub count-small : r .count < 65536
@@ -55,9 +55,9 @@ pub record PointsRead (d : List ℕ) : Type 0 where
 -- An accepted 2Bh write: its gains lie within a colour's third.
 pub record GainsWrite (d : List ℕ) : Type 0 where
   pub sized : length d ≡ 6 + 2 * wordAt d 2
-  pub numbers : length (gainsWords d) ≡ wordAt d 2
+  pub numbers : length (gainsSent d) ≡ gainsCount false d
   pub colour : byteAt d 1 ≤ 3
-  pub ends : wordAt d 4 + wordAt d 2 ≤ third
+  pub ends : wordAt d 4 + gainsCount false d ≤ third
 
 -- An accepted 2Bh read: its gains lie within a colour's third, and fit a reply.
 pub record GainsRead (d : List ℕ) : Type 0 where

@@ -9,7 +9,7 @@ ghost use mathlib.Core.Bool.{cond, true};
 ghost use Prim.Native.Nat.{_+_, _^_, _<_, _≤_};
 ghost use lib.ListN.{length, take, drop};
 ghost use lib.Seq.{paste};
-ghost use lib.Dec.{eqb};
+ghost use lib.Dec.{eqb, ltb};
 ghost use Rattle.wire.specs.Buffers.{Overwrites};
 ghost use Rattle.wire.specs.First.{first};
 ghost use Rattle.wire.specs.Numbers.{byteAt};
@@ -19,7 +19,7 @@ ghost use Rattle.packet.specs.Reading.{answer};
 ghost use Rattle.settings.specs.Layout.{blockSize, shapeHead, listsSize};
 ghost use Rattle.settings.specs.Ranges.{settingsRight};
 ghost use Rattle.controller.specs.State.{replyRoom, dataRoom};
-ghost use Rattle.controller.specs.Commands.{pointCount, colourPlace, runsPast};
+ghost use Rattle.controller.specs.Commands.{pointCount, colourPlace, gainsStart, gainsCount, third, runsPast};
 ghost use Rattle.controller.specs.Commands.{blockAfter, blockBack, writeShape, applyBlock, readShape};
 ghost use Rattle.controller.specs.Internal.{PointsNamed, GainsNamed};
 ghost use Rattle.controller.specs.Step.{decision, emptyReply};
@@ -29,7 +29,7 @@ pub const MAP_SIZE: usize = 3968;
 
 pub const GAINS_SIZE: usize = 6048;
 
-pub const COLOUR_GAINS: usize = 2016;
+pub const COLOUR_GAINS: usize = runs::COLOUR_GAINS;
 
 // What stands in front of a write's points, its start; and of a write's gains: compression, colour, count, start.
 pub const POINTS_HEAD: usize = 2;
@@ -66,7 +66,7 @@ pub fn decide(packet: &[u8], block: &[u8]) -> Reading
     r
 }
 
-// Whether start + count goes past the staged shape's points (34h, rule 5.4) or past a colour's gains (2Bh, rule 5.8).
+// Whether start + count goes past the staged shape's points (34h, rule 5.4) or past a colour's gains (2Bh, rules 5.8 and 5.11).
 fn runs_past(opcode: usize, reads: bool, data: &[u8], block: &[u8]) -> bool
     ensures { λ r. ⌜ r ≡ runsPast opcode reads (now («data» .entry)) (now (block .entry)) ⌝ }
 {
@@ -76,10 +76,20 @@ fn runs_past(opcode: usize, reads: bool, data: &[u8], block: &[u8]) -> bool
         return points < named.start + named.count;
     }
     if opcode == 0x2B {
-        let named = gains_named(reads, data);
-        return COLOUR_GAINS < named.start + named.count;
+        return gains_past(reads, data);
     }
     false
+}
+
+// 2Bh: a write of pairs has as many gains as its runs add up to.
+fn gains_past(reads: bool, data: &[u8]) -> bool
+    ensures { λ r. ⌜ r ≡ ltb third (gainsStart reads (now («data» .entry)) + gainsCount reads (now («data» .entry))) ⌝ }
+{
+    let named = gains_named(reads, data);
+    if !reads & opcode::in_pairs(data) {
+        return runs::bytes::runs_past(named.start, data, GAINS_HEAD);
+    }
+    COLOUR_GAINS < named.start + named.count
 }
 
 // The points that a 34h command names: so many, from a start on.
@@ -110,7 +120,7 @@ fn point_count(reads: bool, data: &[u8]) -> usize
     (data.len() - 2) / 4
 }
 
-// The gains that a 2Bh command names: so many of a colour, from a start on; and where these stand in the table, for colour 0 in the
+// The words that a 2Bh command names: so many, for a colour, from a start on; and where their gains stand in the table, for colour 0 in the
 // first of its three places.
 pub struct Gains {
     pub colour: usize,

@@ -13,13 +13,14 @@ use settings::layout::BLOCK_SIZE;
 ghost use mathlib.Core.Path.{_≡_};
 ghost use mathlib.Core.Bool.{false};
 ghost use mathlib.Core.List.{[]};
-ghost use Prim.Native.Nat.{_≤_};
+ghost use Prim.Native.Nat.{_+_, _≤_};
 ghost use lib.ListN.{length};
 ghost use Rattle.wire.specs.Buffers.{Overwrites};
 ghost use Rattle.packet.specs.Reading.{commandAt};
 ghost use Rattle.settings.specs.Reset.{mapSize, gainsSize};
 ghost use Rattle.controller.specs.State.{replyRoom, dataRoom, state, resetOut, lengthsRight, «stopped» as stoppedBy};
 ghost use Rattle.controller.specs.Commands.{stagedAfter, liveAfter, gainsAfter, written, readPoints, readGains, dataBack};
+ghost use Rattle.controller.specs.Commands.{gainsSent, gainsInto};
 ghost use Rattle.controller.specs.Step.{«out» as outcome, decision, readReply, step};
 ghost use Rattle.controller.specs.Demands.{Handled, Resets};
 ghost use Rattle.controller.specs.Internal.{PointsWrite, PointsRead, GainsWrite, GainsRead, ReadGranted, WriteGranted};
@@ -278,7 +279,7 @@ fn store_points(opcode: usize, data: &[u8], staged: &mut [u16])
     tables::words_in(staged, 2 * named.start, data, POINTS_HEAD, 2 * named.count);
 }
 
-// 2Bh: the words of the packet, into one third of the gains or, for colour 0, into all three.
+// 2Bh: the gains that the packet sends, into one third of the table or, for colour 0, into all three.
 fn store_gains(opcode: usize, data: &[u8], gains: &mut [u16])
     requires { ⌜ (opcode ≡ 0x2B → GainsWrite (now «data»)) × (length (now gains) ≡ gainsSize) ⌝ }
     ensures { λ _. ⌜ now (gains .exit) ≡ gainsAfter opcode (now («data» .entry)) (now (gains .entry)) ⌝ }
@@ -287,22 +288,22 @@ fn store_gains(opcode: usize, data: &[u8], gains: &mut [u16])
         return;
     }
     let named = controller::gains_named(false, data);
-    tables::words_in(gains, named.place, data, GAINS_HEAD, named.count);
+    put_gains(data, gains, named.place);
     if named.colour != 0 {
         return;
     }
-    tables::words_in(
-        gains,
-        COLOUR_GAINS + named.place,
-        data,
-        GAINS_HEAD,
-        named.count,
-    );
-    tables::words_in(
-        gains,
-        2 * COLOUR_GAINS + named.place,
-        data,
-        GAINS_HEAD,
-        named.count,
-    );
+    put_gains(data, gains, COLOUR_GAINS + named.place);
+    put_gains(data, gains, 2 * COLOUR_GAINS + named.place);
+}
+
+// 2Bh: the gains that the packet sends, from a place on: its words, or run by run what its pairs stand for.
+fn put_gains(data: &[u8], gains: &mut [u16], place: usize)
+    requires { ⌜ GainsWrite (now «data») × (place + length (gainsSent (now «data»)) ≤ length (now gains)) ⌝ }
+    ensures { λ _. ⌜ now (gains .exit) ≡ gainsInto (now (gains .entry)) place (gainsSent (now («data» .entry))) ⌝ }
+{
+    if opcode::in_pairs(data) {
+        tables::runs_in(gains, place, data, GAINS_HEAD);
+        return;
+    }
+    tables::words_in(gains, place, data, GAINS_HEAD, wire::word(data, 2));
 }

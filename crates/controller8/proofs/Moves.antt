@@ -1,22 +1,25 @@
 -- What is copied into a table's bytes and out of them, said of its numbers: the law on a copied part, put to the places and counts of each
 -- command.
-use Prim.Native.Nat.{ℕ, _+_, _-_, _*_, _%_, _≤_}
+use Prim.Native.Nat.{ℕ, _+_, _*_, _%_, _≤_}
 use mathlib.Core.Path.{_≡_, refl, sym, ap, _∙_}
-use mathlib.Core.Bool.{false}
+use mathlib.Core.Bool.{true, false}
 use mathlib.Core.List.{List, append-nil}
 use native.Mathlib.Omega.{arith}
 use lib.ListN.{length, take, drop, length-drop, drop-of-length-le}
-use lib.Seq.{paste, take-all, getD-drop}
+use lib.Seq.{sets, paste, take-all, getD-drop}
 use Rattle.wire.specs.Buffers.{over}
+use Rattle.wire.specs.Numbers.{wordAt}
 use Rattle.wire.specs.Tables.{words, bytes}
-use Rattle.wire.proofs.Tables.{halves-paste}
-use Rattle.wire.proofs.Copies.{paste-over}
+use Rattle.wire.proofs.Tables.{halves-paste, length-halves}
+use Rattle.wire.proofs.Copies.{paste-over, sets-paste}
+use Rattle.runs.specs.Pairs.{expand}
+use Rattle.opcode.specs.Judgement.{inPairs}
 use Rattle.packet.specs.Points.{writePoints, startOf, pointsOf}
-use Rattle.tables.proofs.Bytes.{Below, bytes-words, bytes-part}
+use Rattle.tables.proofs.Bytes.{Below, words-bytes, bytes-words, bytes-part}
 use Rattle.settings.specs.Reset.{mapSize, gainsSize}
-use Rattle.controller.specs.Commands.{pointCount, gainsColour, gainsCount, gainsPlace, third, gainsWords, writeGains}
+use Rattle.controller.specs.Commands.{pointCount, third, gainsColour, gainsPlace, gainsWords, gainsSent, gainsInto, writeGains}
 use Rattle.controller.specs.Internal.{PointsWrite, GainsWrite}
-use Rattle.controller.proofs.Grants.{gains-one, gains-three}
+use Rattle.controller.proofs.Grants.{sent-pairs, sent-plain, plain-many, gains-three}
 use Rattle.controller8.specs.Bytes.{mapBytes, gainsBytes}
 
 -- ---- Out of a table.
@@ -55,26 +58,33 @@ points-stored d staged small fits long below start count es en =
     stored d small 2 (rw length-drop (omega (arith, fits .sized))) staged (words staged) (lent-words staged mapSize long below)
     (2 * startOf d) (4 * start) (4 * count) (omega arith) (omega (arith, fits .numbers))
 
-module _ (d gains : List ℕ) (small : Below 256 d) (fits : GainsWrite d) (long : length gains ≡ gainsBytes) (below : Below 256 gains)
-    (place count : ℕ) (here : place ≡ gainsPlace false d) (all : count ≡ gainsCount false d) where
-  into : (tb w : List ℕ) → tb ≡ bytes w → (at at₂ : ℕ) → at₂ ≡ 2 * at
-      → paste tb at₂ (drop 6 d) (2 * count) ≡ bytes (paste w at (gainsWords d) (length (gainsWords d)))
-  into tb w e at at₂ ea =
-      stored d small 6 (rw length-drop (omega (arith, fits .sized))) tb w e at at₂ (2 * count) ea (omega (arith, fits .numbers))
+-- The gains that a write sends, from a place on.
+module _ (d gains : List ℕ) (place : ℕ) (long : length gains ≡ gainsBytes) (below : Below 256 gains) where
+  pub pairs-stored : inPairs d ≡ true → place + length (gainsSent d) ≤ gainsSize
+      → sets gains (2 * place) (bytes (expand (gainsWords d))) ≡ bytes (gainsInto (words gains) place (gainsSent d))
+  pairs-stored e h =
+      let new = gainsSent d in
+      let many = length-halves 256 new in
+      ap (λ (l : List ℕ). sets gains (2 * place) (bytes l)) (sym (sent-pairs d e))
+      ∙ sets-paste gains (2 * place) (bytes new) (omega arith)
+      ∙ ap (λ (tb : List ℕ). paste tb (2 * place) (bytes new) (length (bytes new))) (lent-words gains gainsSize long below)
+      ∙ rw many (sym (halves-paste 256 (words gains) place new (length new)))
 
-  whole : gains ≡ bytes (words gains)
-  whole = lent-words gains gainsSize long below
+  pub plain-stored : Below 256 d → inPairs d ≡ false → GainsWrite d → (n : ℕ) → n ≡ wordAt d 2
+      → paste gains (2 * place) (drop 6 d) (2 * n) ≡ bytes (gainsInto (words gains) place (gainsSent d))
+  plain-stored small e fits n m =
+      let many = m ∙ sym (plain-many d e fits) ∙ ap length (sent-plain d e) in
+      stored d small 6 (rw length-drop (omega (arith, fits .sized))) gains (words gains) (lent-words gains gainsSize long below) place (2 * place) (2 * n) refl (omega arith)
+      ∙ ap (λ (l : List ℕ). bytes (gainsInto (words gains) place l)) (sym (sent-plain d e))
 
-  pub one-stored : (gainsColour false d ≡ 0 → ⊥) → paste gains (2 * place) (drop 6 d) (2 * count) ≡ bytes (writeGains d (words gains))
-  one-stored some =
-      into gains (words gains) whole place (2 * place) refl ∙ ap bytes (gains-one d (words gains) place (length (gainsWords d)) here refl some)
-
-  -- Each third's copy finds the table as the one before left it.
-  pub three-stored : gainsColour false d ≡ 0 → (red green blue : List ℕ) → red ≡ paste gains (2 * place) (drop 6 d) (2 * count)
-      → green ≡ paste red (2 * third + 2 * place) (drop 6 d) (2 * count) → blue ≡ paste green (4 * third + 2 * place) (drop 6 d) (2 * count)
-      → blue ≡ bytes (writeGains d (words gains))
-  three-stored none red green blue er eg eb =
-      let first = er ∙ into gains (words gains) whole place (2 * place) refl in
-      let second = eg ∙ into red _ first (third + place) (2 * third + 2 * place) (omega arith) in
-      eb ∙ into green _ second (2 * third + place) (4 * third + 2 * place) (omega arith)
-      ∙ ap bytes (gains-three d (words gains) place (length (gainsWords d)) here refl none)
+-- The three thirds, each put into the table that the one before left.
+pub three-stored : (d gains : List ℕ) (place : ℕ) (red green blue : List ℕ) → place ≡ gainsPlace false d → gainsColour false d ≡ 0
+    → red ≡ bytes (gainsInto (words gains) place (gainsSent d)) → green ≡ bytes (gainsInto (words red) (third + place) (gainsSent d))
+    → blue ≡ bytes (gainsInto (words green) (2 * third + place) (gainsSent d)) → blue ≡ bytes (writeGains d (words gains))
+three-stored d gains place red green blue here none er eg eb =
+    let first = ap words er ∙ words-bytes (gainsInto (words gains) place (gainsSent d)) in
+    let second = ap words eg ∙ words-bytes (gainsInto (words red) (third + place) (gainsSent d)) in
+    eb
+    ∙ ap (λ (w : List ℕ). bytes (gainsInto w (2 * third + place) (gainsSent d))) second
+    ∙ ap (λ (w : List ℕ). bytes (gainsInto (gainsInto w (third + place) (gainsSent d)) (2 * third + place) (gainsSent d))) first
+    ∙ ap bytes (gains-three d (words gains) place here none)

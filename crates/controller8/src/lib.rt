@@ -12,13 +12,15 @@ use settings::layout::BLOCK_SIZE;
 ghost use mathlib.Core.Path.{_≡_};
 ghost use mathlib.Core.Bool.{true, false};
 ghost use mathlib.Core.List.{[]};
-ghost use Prim.Native.Nat.{_≤_};
+ghost use Prim.Native.Nat.{_+_, _≤_};
 ghost use lib.ListN.{length};
 ghost use Rattle.wire.specs.Buffers.{Overwrites};
 ghost use Rattle.wire.specs.Tables.{words, bytes};
 ghost use Rattle.packet.specs.Reading.{commandAt};
+ghost use Rattle.settings.specs.Reset.{gainsSize};
 ghost use Rattle.controller.specs.State.{replyRoom, dataRoom, «stopped» as stoppedBy};
 ghost use Rattle.controller.specs.Commands.{stagedAfter, liveAfter, gainsAfter, written, readPoints, readGains, dataBack};
+ghost use Rattle.controller.specs.Commands.{gainsSent, gainsInto};
 ghost use Rattle.controller.specs.Step.{decision, readReply};
 ghost use Rattle.controller.specs.Internal.{PointsWrite, PointsRead, GainsWrite, GainsRead, ReadGranted, WriteGranted};
 ghost use Rattle.controller8.specs.Bytes.{mapBytes, gainsBytes, lent, stateIn, lentOf, byteLengthsRight, stoppedBytes};
@@ -28,8 +30,6 @@ ghost use Rattle.controller8.specs.Bytes.{lentOut, stepBytes, lentReset,
 const MAP_BYTES: usize = 2 * MAP_SIZE;
 
 const GAINS_BYTES: usize = 2 * GAINS_SIZE;
-
-const COLOUR_BYTES: usize = 2 * COLOUR_GAINS;
 
 const GAIN: usize = controller::GAIN_ONE as usize;
 
@@ -292,7 +292,7 @@ fn store_points(opcode: usize, data: &[u8], staged: &mut [u8])
     wire::copy(staged, 4 * named.start, data, POINTS_HEAD, 4 * named.count);
 }
 
-// 2Bh: the words of the packet, into one third of the gains or, for colour 0, into all three.
+// 2Bh: the gains that the packet sends, into one third of the table or, for colour 0, into all three.
 fn store_gains(opcode: usize, data: &[u8], gains: &mut [u8])
     requires { ⌜ (opcode ≡ 0x2B → GainsWrite (now «data»)) × (length (now gains) ≡ gainsBytes) ⌝ }
     ensures { λ _. ⌜ now (gains .exit) ≡ bytes (gainsAfter opcode (now («data» .entry)) (words (now (gains .entry)))) ⌝ }
@@ -301,12 +301,24 @@ fn store_gains(opcode: usize, data: &[u8], gains: &mut [u8])
         return;
     }
     let named = controller::gains_named(false, data);
-    let place = 2 * named.place;
-    let size = 2 * named.count;
-    wire::copy(gains, place, data, GAINS_HEAD, size);
+    put_gains(data, gains, named.place);
     if named.colour != 0 {
         return;
     }
-    wire::copy(gains, COLOUR_BYTES + place, data, GAINS_HEAD, size);
-    wire::copy(gains, 2 * COLOUR_BYTES + place, data, GAINS_HEAD, size);
+    put_gains(data, gains, COLOUR_GAINS + named.place);
+    put_gains(data, gains, 2 * COLOUR_GAINS + named.place);
+}
+
+// 2Bh: the gains that the packet sends, from a place on: its words, or run by run what its pairs stand for.
+fn put_gains(data: &[u8], gains: &mut [u8], place: usize)
+    requires { ⌜ GainsWrite (now «data») × (length (now gains) ≡ gainsBytes)
+        × (place + length (gainsSent (now «data»)) ≤ gainsSize) ⌝ }
+    ensures { λ _. ⌜ now (gains .exit)
+        ≡ bytes (gainsInto (words (now (gains .entry))) place (gainsSent (now («data» .entry)))) ⌝ }
+{
+    if opcode::in_pairs(data) {
+        tables::runs_in_bytes(gains, place, data, GAINS_HEAD);
+        return;
+    }
+    wire::copy(gains, 2 * place, data, GAINS_HEAD, 2 * wire::word(data, 2));
 }

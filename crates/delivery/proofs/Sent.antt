@@ -71,7 +71,7 @@ quiet-parts n w (p ∷ ps) (AllAccepted.next a r) =
     let d : List ℕ = wordBytes (p .start) ++ bytes (take (2 * p .count) (drop (2 * p .start) w)) in
     Quiet.next a (made-reads 0x34 0x10 d refl .header) (quiet-parts n w ps r)
 
-no-reply : (p : List ℕ) → headerOf p ≡ 0x14 → emptyReply 0 p ≡ []
+pub no-reply : (p : List ℕ) → headerOf p ≡ 0x14 → emptyReply 0 p ≡ []
 unfolding emptyReply
 no-reply p h = rw (h, and-false)
 

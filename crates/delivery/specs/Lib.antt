@@ -1,3 +1,4 @@
--- Upload plans at the front end: the judge of lists of packets and the front end go by one write, and what a planned upload leaves there.
+-- Uploads at the front end: what a planned upload leaves there, and what compressed gains leave.
 pub mod Delivery
+pub mod Gains
 pub mod Theorems

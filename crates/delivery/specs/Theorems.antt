@@ -1,6 +1,6 @@
 -- What holds over several packets, or of planning apart from any call, so that no one contract can carry it. The crate is proved only with every
 -- line of this list.
-use Prim.Native.Nat.{ℕ, _*_, _≤_, _<_}
+use Prim.Native.Nat.{ℕ, _+_, _*_, _≤_, _<_}
 use mathlib.Core.Path.{_≡_}
 use mathlib.Core.List.{List, [], _∷_}
 use lib.ListN.{length, take, getD}
@@ -14,7 +14,11 @@ use Rattle.controller.specs.Calls.{Call, stateAfterAll, NoneApplies}
 use Rattle.upload.specs.Plan.{packetsOf, batchOf, EachAnnounced}
 use Rattle.upload.specs.Judge.{MapOf}
 use Rattle.upload.specs.Examples.{Examples}
+use Rattle.runs.specs.Pairs.{expand, sumRuns}
+use Rattle.compress.specs.Compress.{compressed, Compressible}
+use Rattle.split.specs.Split.{Splittable}
 use Rattle.delivery.specs.Delivery.{Delivered}
+use Rattle.delivery.specs.Gains.{GainsDelivered}
 
 pub record Theorems : Type 0 where
   -- Rule 5.6: packets none of which is an accepted apply leave the live side, whatever they are.
@@ -23,6 +27,15 @@ pub record Theorems : Type 0 where
   -- packet and leaves wanted.
   pub delivered : (n : ℕ) (held wanted : List ℕ) → MapOf n held → MapOf n wanted → (s : State) (reply : List ℕ) → LentRight s reply
       → stagedPoints (s .block) ≡ n → take (2 * n) (s .staged) ≡ held → Delivered n held wanted s reply
+  -- Rule 5.11: pairs stand for as many gains as their runs add up to.
+  pub runs-counted : (ws : List ℕ) → length (expand ws) ≡ sumRuns ws
+  -- Rule 10.5: pairs that can be split, sent packet by packet to a front end in range, set the colour's gains to what they stand for.
+  pub gains-delivered : (colour start : ℕ) (ws : List ℕ) → Splittable colour start ws → (s : State) (reply : List ℕ) → LentRight s reply
+      → GainsDelivered colour start ws s reply
+  -- Rules 10.1 and 10.5: so gains that are compressed, split and sent are the gains.
+  pub compressed-delivered : (colour start : ℕ) (gains : List ℕ) → Compressible gains → colour ≤ 3 → start + length gains ≤ 2016
+      → (s : State) (reply : List ℕ) → LentRight s reply
+      → (expand (compressed gains) ≡ gains) × Splittable colour start (compressed gains) × GainsDelivered colour start (compressed gains) s reply
   -- Every number of a batch is a byte.
   pub batch-bytes : (n : ℕ) (held wanted : List ℕ) → n ≤ 65536 → MapOf n held → MapOf n wanted → (k : ℕ) → getD (batchOf held wanted) k 0 < 256
   -- Rules 2.1 and 2.4: a sound packet with a length field has as many bytes as it announces.

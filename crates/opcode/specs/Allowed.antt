@@ -1,9 +1,10 @@
--- When a command's data is right, line by line from rules 5.1 and 5.4 to 5.9, and not by way of the refusals. Elements are bytes.
+-- When a command's data is right, line by line from rules 5.1, 5.4 to 5.9 and 5.11, and not by way of the refusals. Elements are bytes.
 use Prim.Native.Nat.{ℕ, _+_, _*_, _≤_, _<_}
 use mathlib.Core.Path.{_≡_}
 use mathlib.Core.List.{List, [], _∷_, _++_}
 use lib.ListN.{length, getD}
 use Rattle.wire.specs.Tables.{words}
+use Rattle.runs.specs.Pairs.{Pairs}
 use Rattle.opcode.specs.Options.{hasLength, isRead}
 
 -- Rule 5.5: strictly rising.
@@ -16,7 +17,7 @@ pub data Rising : List ℕ → Type 0 where
 abbrev pub two : ℕ → ℕ → ℕ
 two low high = low + 256 * high
 
--- Rules 5.1 and 5.4 to 5.9: what a write of an opcode may carry.
+-- Rules 5.1, 5.4 to 5.9 and 5.11: what a write of an opcode may carry.
 pub data WriteData : ℕ → List ℕ → Type 0 where
   -- Rule 5.1, 11h: display 0-4.
   display : {v : ℕ} → v ≤ 4 → WriteData 0x11 (v ∷ [])
@@ -71,6 +72,10 @@ pub data WriteData : ℕ → List ℕ → Type 0 where
   gains : {colour n₀ n₁ s₀ s₁ : ℕ} {ws : List ℕ}
       → colour ≤ 3 → 1 ≤ two n₀ n₁ → length ws ≡ 2 * two n₀ n₁ → ((k : ℕ) → getD (words ws) k 0 ≤ 8191)
       → WriteData 0x2B (0 ∷ colour ∷ n₀ ∷ n₁ ∷ s₀ ∷ s₁ ∷ ws)
+  -- Rule 5.11: flag 1, colour 0-3, a count of 1 or more, a start, and as many words, which are pairs of a run 1-2,016 and a gain of at most 8,191.
+  runs : {colour n₀ n₁ s₀ s₁ : ℕ} {ws : List ℕ}
+      → colour ≤ 3 → 1 ≤ two n₀ n₁ → length ws ≡ 2 * two n₀ n₁ → Pairs (words ws)
+      → WriteData 0x2B (1 ∷ colour ∷ n₀ ∷ n₁ ∷ s₀ ∷ s₁ ∷ ws)
 
 -- Rule 5.1, and rules 5.5 to 5.7: the commands whose reads send nothing.
 pub data SendsNothing : ℕ → Type 0 where
@@ -110,7 +115,7 @@ pub data NeedsLength : ℕ → Type 0 where
   write-35 : NeedsLength 0x35
   write-38 : NeedsLength 0x38
 
--- Rules 5.1 to 5.9: data is allowed for an opcode under its options.
+-- Rules 5.1 to 5.9 and 5.11: data is allowed for an opcode under its options.
 pub data Allowed : ℕ → ℕ → List ℕ → Type 0 where
   asks : {op o : ℕ} {d : List ℕ} → isRead o ≡ 1 → ReadData op d → Allowed op o d
   sets : {op o : ℕ} {d : List ℕ} → isRead o ≡ 0 → WriteData op d → (NeedsLength op → hasLength o ≡ 1) → Allowed op o d

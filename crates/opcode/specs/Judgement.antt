@@ -7,6 +7,7 @@ use lib.Dec.{eqb, leb, ltb}
 use Rattle.wire.specs.Numbers.{byteAt, wordAt}
 use Rattle.wire.specs.Tables.{words}
 use Rattle.runs.specs.Gains.{firstLarge}
+use Rattle.runs.specs.Pairs.{pairFault}
 use Rattle.opcode.specs.Options.{hasLength, isRead}
 use Rattle.opcode.specs.Fields.{fault, wordsAt, rise}
 use Rattle.opcode.specs.Commands.{commandOf, notCarried, variable}
@@ -23,9 +24,14 @@ lacksLength op o = eqb (isRead o) 0 && eqb (commandOf op .mark) variable && eqb 
 unfoldable pub pointsSizeWrong : List ℕ → Bool
 pointsSizeWrong d = not (leb 6 (length d) && eqb (length d % 4) 2)
 
--- Rule 5.9, 2Bh: 6 + 2 × count bytes.
+-- Rule 5.11: with compression 1 the words are pairs.
+abbrev pub inPairs : List ℕ → Bool
+inPairs d = eqb (byteAt d 0) 1
+
+-- Rules 5.9 and 5.11, 2Bh: 6 + 2 × count bytes; an odd count makes no pairs.
 unfoldable pub gainsSizeWrong : List ℕ → Bool
-gainsSizeWrong d = not (leb 6 (length d) && eqb (length d) (6 + 2 * wordAt d 2))
+gainsSizeWrong d =
+    not (leb 6 (length d) && eqb (length d) (6 + 2 * wordAt d 2)) || (inPairs d && eqb (wordAt d 2 % 2) 1)
 
 -- Rule 5.9, 35h: 5 bytes in mode 0 and 189 in mode 1; none is wrong too. A mode above 1 has no size of its own, so that its value
 -- is refused.
@@ -53,12 +59,16 @@ sizeWrong op o d =
     cond (eqb (isRead o) 1) (not (eqb (length d) (commandOf op .read)))
     (cond (eqb (commandOf op .mark) variable) (variableSizeWrong op d) (not (eqb (length d) (commandOf op .write))))
 
--- Rule 5.8: the place of the first value at fault in a 2Bh write: its four fields; then its words, unless compression is 1, which
--- is refusal 11 whatever the words. A place below the data's length is a fault.
+-- Rules 5.8 and 5.11: of a 2Bh write's words, which are gains or pairs, the index of the first at fault.
+unfoldable pub wordsFault : List ℕ → ℕ
+wordsFault d = cond (inPairs d) (pairFault (words (drop 6 d))) (firstLarge (words (drop 6 d)))
+
+-- Rules 5.8 and 5.11: the place of the first value at fault in a 2Bh write: its four fields; then its words. A place below the data's
+-- length is a fault.
 unfoldable pub gainsFault : List ℕ → ℕ
 gainsFault d =
     cond (ltb (fault (commandOf 0x2B .sets) d 0) 6) (fault (commandOf 0x2B .sets) d 0)
-    (cond (eqb (byteAt d 0) 1) (length d) (6 + 2 * firstLarge (words (drop 6 d))))
+    (6 + 2 * wordsFault d)
 
 -- Rule 5.5: in a 35h write of mode 1, where the 62 numbers or the 32 do not rise.
 unfoldable pub listsFault : List ℕ → ℕ
@@ -88,9 +98,9 @@ valueFault op o d =
 abbrev pub valueWrong : ℕ → ℕ → List ℕ → Bool
 valueWrong op o d = ltb (valueFault op o d) (length d)
 
--- Rule 4.1, 11: merge mode of 39h and compression of 2Bh, which the guides name and we do not carry.
+-- Rule 4.1, 11: merge mode of 39h, which the guides name and we do not carry.
 abbrev pub namedOnly : ℕ → ℕ → List ℕ → Bool
-namedOnly op o d = eqb (isRead o) 0 && (eqb op 0x39 || eqb op 0x2B) && eqb (byteAt d 0) 1
+namedOnly op o d = eqb (isRead o) 0 && eqb op 0x39 && eqb (byteAt d 0) 1
 
 -- Rule 4.1: rows 7 to 11, in order.
 unfoldable pub judgement : ℕ → ℕ → List ℕ → List (ℕ × Bool)

@@ -10,12 +10,14 @@ use super::opcodes::VARIABLE;
 use super::opcodes::row_at;
 use wire::Refusal;
 ghost use mathlib.Core.Path.{_≡_};
+ghost use Prim.Native.Nat.{_*_, _≤_};
+ghost use lib.ListN.{length};
 ghost use Rattle.wire.specs.First.{first};
 ghost use Rattle.opcode.specs.Commands.{rowOf};
 ghost use Rattle.opcode.specs.Judgement.{judgement, sizeWrong, variableSizeWrong, valueFault, variableFault};
 ghost use Rattle.opcode.specs.Judgement.{«unknown», lacksLength, namedOnly};
 ghost use Rattle.opcode.specs.Judgement.{pointsSizeWrong, gainsSizeWrong, controlSizeWrong, smoothSizeWrong};
-ghost use Rattle.opcode.specs.Judgement.{gainsFault, listsFault, controlFault, smoothFault};
+ghost use Rattle.opcode.specs.Judgement.{inPairs, wordsFault, gainsFault, listsFault, controlFault, smoothFault};
 
 // 2Bh: compression, colour, count and start. 35h: mode, columns and rows; or the mode and two lists. 38h: columns and rows.
 const GAINS_HEAD: usize = 6;
@@ -102,11 +104,20 @@ fn points_size_wrong(data: &[u8]) -> bool
     !((6 <= data.len()) & (data.len() % 4 == 2))
 }
 
-// 2Bh: compression, colour, count, start, and as many words as the count says.
+// 2Bh: whether its words are compressed, in pairs of a run and a gain.
+pub fn in_pairs(data: &[u8]) -> bool
+    ensures { λ r. ⌜ r ≡ inPairs (now («data» .entry)) ⌝ }
+{
+    wire::byte(data, 0) == 1
+}
+
+// 2Bh: compression, colour, count, start, and as many words as the count says; in pairs, an even count.
 fn gains_size_wrong(data: &[u8]) -> bool
     ensures { λ r. ⌜ r ≡ gainsSizeWrong (now («data» .entry)) ⌝ }
 {
-    !((GAINS_HEAD <= data.len()) & (data.len() == GAINS_HEAD + 2 * wire::word(data, 2)))
+    let count = wire::word(data, 2);
+    !((GAINS_HEAD <= data.len()) & (data.len() == GAINS_HEAD + 2 * count))
+        | (in_pairs(data) & (count % 2 == 1))
 }
 
 // 35h: the mode, then two counts or two lists; with a mode above 1 no size is wrong.
@@ -164,7 +175,7 @@ fn variable_fault(opcode: usize, data: &[u8]) -> usize
     }
 }
 
-// 2Bh: its fields; then its words, unless they are compressed.
+// 2Bh: its fields; then its words.
 fn gains_fault(data: &[u8]) -> usize
     ensures { λ r. ⌜ r ≡ gainsFault (now («data» .entry)) ⌝ }
 {
@@ -172,10 +183,17 @@ fn gains_fault(data: &[u8]) -> usize
     if head < GAINS_HEAD {
         return head;
     }
-    if wire::byte(data, 0) == 1 {
-        return data.len();
+    GAINS_HEAD + 2 * words_fault(data)
+}
+
+// 2Bh: the index of the first word at fault: a gain, or of a pair the run before the gain.
+fn words_fault(data: &[u8]) -> usize
+    ensures { λ r. ⌜ (r ≡ wordsFault (now («data» .entry))) × (2 * r ≤ length (now («data» .entry))) ⌝ }
+{
+    if in_pairs(data) {
+        return runs::bytes::pair_fault(data, GAINS_HEAD);
     }
-    GAINS_HEAD + 2 * runs::bytes::first_large(data, GAINS_HEAD)
+    runs::bytes::first_large(data, GAINS_HEAD)
 }
 
 // 35h: in mode 1 the lists, else the fields.
@@ -210,11 +228,9 @@ fn smooth_fault(data: &[u8]) -> usize
     data.len()
 }
 
-// 11: merge mode of 39h and compression of 2Bh.
+// 11: merge mode of 39h.
 fn named_only(opcode: usize, options: usize, data: &[u8]) -> bool
     ensures { λ r. ⌜ r ≡ namedOnly opcode options (now («data» .entry)) ⌝ }
 {
-    (options / bits::READ % 2 == 0)
-        & ((opcode == 0x39) | (opcode == 0x2B))
-        & (wire::byte(data, 0) == 1)
+    (options / bits::READ % 2 == 0) & (opcode == 0x39) & (wire::byte(data, 0) == 1)
 }

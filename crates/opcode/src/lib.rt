@@ -6,6 +6,7 @@ pub mod limits;
 mod lists;
 mod opcodes;
 
+pub use judgement::in_pairs;
 pub use judgement::judge;
 pub use opcodes::row_at;
 

@@ -1,29 +1,32 @@
 -- The index of the first word at fault is the list's length exactly if none is.
-use Prim.Native.Nat.{ℕ, zero, suc, _*_, _≤_}
+use Prim.Native.Nat.{ℕ, zero, suc, _*_, _%_, _≤_}
 use mathlib.Core.Path.{_≡_, refl, ap}
 use mathlib.Core.List.{List, [], _∷_}
-use mathlib.Core.Bool.{Bool, true, false, cond}
+use mathlib.Core.Bool.{Bool, true, false, cond, not, _&&_}
 use native.Mathlib.Decide.{decLe}
 use native.Mathlib.Omega.{arith}
-use borrow.Author.Tests.{le-leb, lt-leb}
+use borrow.Author.Tests.{leb-true, le-leb, lt-leb}
 use lib.ListN.{length, drop, getD, length-drop}
 use lib.Dec.{leb}
 use Rattle.wire.specs.Tables.{words}
 use Rattle.wire.proofs.Tables.{length-pairs}
+use Rattle.wire.proofs.Tests.{told}
 use Rattle.runs.specs.Gains.{mostGain, firstLarge}
-use Rattle.runs.specs.Pairs.{Pairs, none, pair, runWrong, pairFault}
+use Rattle.runs.specs.Pairs.{colourGains, Pairs, none, pair, runWrong, pairFault}
 
 -- Gains.
 pub small-gains : (ws : List ℕ) → ((k : ℕ) → getD ws k 0 ≤ 8191) → firstLarge ws ≡ length ws
 unfolding firstLarge
 small-gains [] h = refl
-small-gains (w ∷ ws) h = rw (le-leb w 8191 (h 0)) (ap suc (small-gains ws (λ k. h (suc k))))
+small-gains (w ∷ ws) h = rw (le-leb w mostGain (omega (arith, h 0))) (ap suc (small-gains ws (λ k. h (suc k))))
 
 first-small : (w : ℕ) (ws : List ℕ) → length (w ∷ ws) ≤ firstLarge (w ∷ ws) → (w ≤ 8191) × (length ws ≤ firstLarge ws)
 unfolding firstLarge
-first-small w ws h =
-    elim (decLe w 8191)
-    [ yes l ↦ (l, omega (arith, rw (le-leb w 8191 l) at h)) | no l ↦ absurd (omega (arith, rw (lt-leb w 8191 (omega arith)) at h)) ]
+first-small w ws h = go (leb w mostGain) refl h
+  where
+    go : (small : Bool) → leb w mostGain ≡ small → length (w ∷ ws) ≤ cond small (suc (firstLarge ws)) 0 → (w ≤ 8191) × (length ws ≤ firstLarge ws)
+    go true e h = omega (arith, leb-true w mostGain e)
+    go false e h = absurd (omega arith)
 
 pub gains-small : (ws : List ℕ) → length ws ≤ firstLarge ws → (k : ℕ) → getD ws k 0 ≤ 8191
 gains-small [] h k = omega arith
@@ -34,12 +37,16 @@ large-few : (ws : List ℕ) → firstLarge ws ≤ length ws
 unfolding firstLarge
 large-few [] = omega arith
 large-few (w ∷ ws) =
-    elim (decLe w 8191)
-    [ yes l ↦ rw (le-leb w 8191 l) (omega (arith, large-few ws)) | no l ↦ rw (lt-leb w 8191 (omega arith)) (omega arith) ]
+    elim (decLe w mostGain)
+    [ yes l ↦ rw (le-leb w mostGain l) (omega (arith, large-few ws)) | no l ↦ rw (lt-leb w mostGain (omega arith)) (omega arith) ]
 
 -- Pairs.
+-- Within two ends.
+within : (low high n : ℕ) → low ≤ n → n ≤ high → not (leb low n && leb n high) ≡ false
+within low high n h k = rw (le-leb low n h, le-leb n high k)
+
 run-right : (run : ℕ) → 1 ≤ run → run ≤ 2016 → runWrong run ≡ false
-run-right run h k = rw (le-leb 1 run h, le-leb run 2016 k)
+run-right run h k = within _ colourGains run (omega arith) k
 
 -- A pair at the front, of words that have no fault.
 record Passed (run gain : ℕ) (rest : List ℕ) : Type 0 where
@@ -50,21 +57,14 @@ record Passed (run gain : ℕ) (rest : List ℕ) : Type 0 where
 
 pair-passed : (run gain : ℕ) (rest : List ℕ) → length (run ∷ gain ∷ rest) ≤ pairFault (run ∷ gain ∷ rest) → Passed run gain rest
 unfolding pairFault
-pair-passed run gain rest h =
-    elim (decLe 1 run) [
-      | no a ↦ absurd (omega (arith, rw (lt-leb 1 run (omega arith)) at h))
-      | yes a ↦
-          elim (decLe run 2016) [
-            | no b ↦ absurd (omega (arith, rw (le-leb 1 run a, lt-leb run 2016 (omega arith)) at h))
-            | yes b ↦
-                elim (decLe gain 8191) [
-                  | no d ↦ absurd (omega (arith, rw (run-right run a b, lt-leb gain 8191 (omega arith)) at h))
-                  | yes d ↦
-                      let behind = rw (run-right run a b, le-leb gain 8191 d) at h in
-                      record { some = a; few = b; small = d; behind = omega arith }
-                ]
-          ]
-    ]
+pair-passed run gain rest h = go (runWrong run) (leb gain mostGain) refl refl h
+  where
+    go : (wrong small : Bool) → runWrong run ≡ wrong → leb gain mostGain ≡ small
+        → length (run ∷ gain ∷ rest) ≤ cond wrong 0 (cond small (suc (suc (pairFault rest))) 1) → Passed run gain rest
+    go true small e f h = absurd (omega arith)
+    go false false e f h = absurd (omega arith)
+    go false true e f h =
+        record { some = search (told, e); few = search (told, e); small = omega (arith, leb-true gain mostGain f); behind = omega arith }
 
 pub fault-pairs : (ws : List ℕ) → length ws ≤ pairFault ws → Pairs ws
 unfolding pairFault
@@ -78,7 +78,12 @@ pub pairs-fault : {ws : List ℕ} → Pairs ws → pairFault ws ≡ length ws
 unfolding pairFault
 pairs-fault none = refl
 pairs-fault (pair {run = run} {gain = gain} h k l r) =
-    rw (run-right run h k, le-leb gain 8191 l) (ap suc (ap suc (pairs-fault r)))
+    rw (run-right run h k, le-leb gain mostGain (omega arith)) (ap suc (ap suc (pairs-fault r)))
+
+-- Two words a pair.
+pub pairs-even : {ws : List ℕ} → Pairs ws → length ws % 2 ≡ 0
+pairs-even none = refl
+pairs-even (pair h k l r) = omega (arith, pairs-even r)
 
 fault-few : (ws : List ℕ) → pairFault ws ≤ length ws
 unfolding pairFault

@@ -1,6 +1,6 @@
 -- What the loops keep: gains are passed one at a time, pairs two words at a time. ws are all words, i is how many are passed.
 use Prim.Native.Nat.{ℕ, suc, _+_, _*_, _≤_, _<_}
-use mathlib.Core.Path.{_≡_, refl}
+use mathlib.Core.Path.{_≡_, refl, _∙_}
 use mathlib.Core.Bool.{true, false}
 use mathlib.Core.List.{List, [], _∷_}
 use native.Mathlib.Numerals.{add-one, add-two}
@@ -8,11 +8,11 @@ use native.Mathlib.Omega.{arith}
 use borrow.Author.Tests.{le-leb, lt-leb}
 use lib.ListN.{length, getD, drop, length-drop, drop-of-length-le}
 use lib.Seq.{drop-cons}
-use Rattle.wire.specs.Numbers.{wordAt}
+use Rattle.wire.specs.Numbers.{byteAt, wordAt}
 use Rattle.wire.specs.Tables.{words}
 use Rattle.wire.proofs.Tables.{length-pairs, number-at}
 use Rattle.runs.specs.Gains.{firstLarge}
-use Rattle.runs.specs.Pairs.{expand, sumRuns, pairFault, runWrong}
+use Rattle.runs.specs.Pairs.{sumRuns, pairFault, runWrong}
 
 -- What a list of one word, or of none, gives.
 alone-fault : (ws : List ℕ) → length ws ≤ 1 → pairFault ws ≡ 0
@@ -78,6 +78,23 @@ words-count s at n h = rw (length-pairs, length-drop) (omega arith)
 pub words-few : (s : List ℕ) (at n : ℕ) → length s ≤ at + 2 * n + 1 → length (words (drop at s)) ≤ n
 words-few s at n h = rw (length-pairs, length-drop) (omega arith)
 
--- The word behind the i-th, where the code reads it.
-pub second-at : (s : List ℕ) (at i : ℕ) → at + 2 * i + 3 < length s → wordAt s (at + 2 * i + 2) ≡ getD (words (drop at s)) (i + 1) 0
-second-at s at i h = let e : at + 2 * i + 2 ≡ at + 2 * (i + 1) = omega arith in rw e (number-at s at (i + 1) (omega arith))
+-- A gain among words as bytes from a place on, and a pair, the i-th word and the next, from the bytes that the code reads.
+pub word-in : (s : List ℕ) (at i : ℕ) → at + 2 * i + 1 < length s
+    → (i < length (words (drop at s))) × (wordAt s (at + 2 * i) ≡ getD (words (drop at s)) i 0)
+word-in s at i h = (omega (arith, words-count s at (i + 1) (omega arith)), number-at s at i h)
+
+pub record PairAt (s : List ℕ) (at i run gain : ℕ) : Type 0 where
+  pub within : i + 1 < length (words (drop at s))
+  pub run-at : run ≡ getD (words (drop at s)) i 0
+  pub gain-at : gain ≡ getD (words (drop at s)) (i + 1) 0
+
+pub pair-at : (s : List ℕ) (at i : ℕ) {run gain : ℕ} → at + 2 * i + 3 < length s → run ≡ wordAt s (at + 2 * i)
+    → gain ≡ byteAt s (at + 2 * i + 2) + 256 * byteAt s (at + 2 * i + 3) → PairAt s at i run gain
+pair-at s at i h r g =
+    let low : at + 2 * i + 2 ≡ at + 2 * (i + 1) = omega arith in
+    let high : at + 2 * i + 3 ≡ at + 2 * (i + 1) + 1 = omega arith in
+    record {
+      within = omega (arith, words-count s at (i + 2) (omega arith));
+      run-at = r ∙ number-at s at i (omega arith);
+      gain-at = rw (low, high) at g ∙ number-at s at (i + 1) (omega arith);
+    }

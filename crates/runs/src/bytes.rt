@@ -15,7 +15,8 @@ pub fn first_large(s: &[u8], at: usize) -> usize
 {
     let mut i = 0;
     while at + 2 * i + 1 < s.len() {
-        if MOST_GAIN < wire::word(s, at + 2 * i) {
+        let j = at + 2 * i;
+        if MOST_GAIN < wire::number(s[j], s[j + 1]) {
             return i;
         }
         i += 1;
@@ -30,11 +31,12 @@ pub fn pair_fault(s: &[u8], at: usize) -> usize
 {
     let mut i = 0;
     while at + 2 * i + 3 < s.len() {
-        let run = wire::word(s, at + 2 * i);
+        let j = at + 2 * i;
+        let run = wire::number(s[j], s[j + 1]);
         if super::run_wrong(run) {
             return i;
         }
-        if MOST_GAIN < wire::word(s, at + 2 * i + 2) {
+        if MOST_GAIN < wire::number(s[j + 2], s[j + 3]) {
             return i + 1;
         }
         i += 2;
@@ -53,7 +55,8 @@ pub fn runs_past(start: usize, s: &[u8], at: usize) -> bool
         if COLOUR_GAINS < end {
             return true;
         }
-        end += wire::word(s, at + 2 * i);
+        let j = at + 2 * i;
+        end += wire::number(s[j], s[j + 1]) as usize;
         i += 2;
     }
     COLOUR_GAINS < end

@@ -7,14 +7,16 @@ ghost use mathlib.Core.Path.{_≡_};
 ghost use Rattle.runs.specs.Pairs.{runWrong};
 
 // The highest gain (rule 5.8).
-pub const MOST_GAIN: usize = 8191;
+pub const MOST_GAIN: u16 = 8191;
 
-// The gains of one colour, and the longest run (rules 5.8 and 5.11).
+// The gains of one colour (rule 5.8), and so many in the longest run (rule 5.11).
 pub const COLOUR_GAINS: usize = 2016;
 
+pub const LONGEST_RUN: u16 = COLOUR_GAINS as u16;
+
 // Whether a run is 0, or longer than a colour.
-fn run_wrong(run: usize) -> bool
+fn run_wrong(run: u16) -> bool
     ensures { λ r. ⌜ r ≡ runWrong run ⌝ }
 {
-    !((1 <= run) & (run <= COLOUR_GAINS))
+    !((1 <= run) & (run <= LONGEST_RUN))
 }

@@ -2,22 +2,7 @@
 use super::COLOUR_GAINS;
 use super::MOST_GAIN;
 ghost use mathlib.Core.Path.{_≡_};
-ghost use Rattle.runs.specs.Gains.{firstLarge};
 ghost use Rattle.runs.specs.Pairs.{pairFault, runsBeyond};
-
-// The index of the first gain that is above the highest, the number of gains for none.
-pub fn first_large(gains: &[u16]) -> usize
-    ensures { λ r. ⌜ r ≡ firstLarge (now (gains .entry)) ⌝ }
-{
-    let mut i = 0;
-    while i < gains.len() {
-        if MOST_GAIN < gains[i] as usize {
-            return i;
-        }
-        i += 1;
-    }
-    i
-}
 
 // The index of the first word at fault, a pair's run before its gain; the number of words in pairs for none.
 pub fn pair_fault(pairs: &[u16]) -> usize
@@ -25,11 +10,11 @@ pub fn pair_fault(pairs: &[u16]) -> usize
 {
     let mut i = 0;
     while i + 1 < pairs.len() {
-        let run = pairs[i] as usize;
+        let run = pairs[i];
         if super::run_wrong(run) {
             return i;
         }
-        if MOST_GAIN < pairs[i + 1] as usize {
+        if MOST_GAIN < pairs[i + 1] {
             return i + 1;
         }
         i += 2;

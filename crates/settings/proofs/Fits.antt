@@ -72,6 +72,7 @@ write-sized (WriteData.lists xs ys ex ey rx ry) m = absurd (omega arith)
 write-sized (WriteData.apply h) m = omega arith
 write-sized (WriteData.smooth h i j k e) m = absurd (omega arith)
 write-sized (WriteData.gains h i e s) m = absurd (omega arith)
+write-sized (WriteData.runs h i e s) m = absurd (omega arith)
 
 pub place-fits : {op o : ℕ} {d : List ℕ} → Allowed op o d → commandOf op .mark ≡ fixed → placeOf op d + commandOf op .back ≤ settingsEnd
 place-fits (Allowed.asks h r) m = read-sized r m .room

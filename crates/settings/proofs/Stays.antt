@@ -246,6 +246,7 @@ write-stays bytes (WriteData.shape h i j k) m block room long q = absurd (omega 
 write-stays bytes (WriteData.lists xs ys ex ey rx ry) m block room long q = absurd (omega arith)
 write-stays bytes (WriteData.smooth h i j k e) m block room long q = absurd (omega arith)
 write-stays bytes (WriteData.gains h i e s) m block room long q = absurd (omega arith)
+write-stays bytes (WriteData.runs h i e s) m block room long q = absurd (omega arith)
 
 -- The theorem. Elements of the data are bytes.
 pub stays : {op o : ℕ} {d : List ℕ} (block : List ℕ) → ((k : ℕ) → getD d k 0 < 256) → Allowed op o d → isRead o ≡ 0

@@ -3,7 +3,8 @@
 ghost use mathlib.Core.Path.{_≡_};
 ghost use Prim.Native.Nat.{_+_, _*_, _/_, _%_, _≤_, _<_};
 ghost use lib.ListN.{length, take, drop, replicate};
-ghost use lib.Seq.{paste};
+ghost use lib.Seq.{paste, sets};
+ghost use Rattle.runs.specs.Pairs.{expand, sumRuns};
 ghost use Rattle.wire.specs.Tables.{words, bytes};
 ghost use Rattle.wire.specs.Buffers.{over};
 
@@ -65,5 +66,56 @@ pub fn fill_bytes(table: &mut [u8], v: usize)
     while i < n {
         wire::put_word(table, 2 * i, v);
         i += 1;
+    }
+}
+
+// One number at n places of the table, from a place on.
+fn fill_part(table: &mut [u16], at: usize, n: usize, v: u16)
+    requires { ⌜ at + n ≤ length (now table) ⌝ }
+    ensures { λ _. ⌜ now (table .exit) ≡ sets (now (table .entry)) at (replicate n v) ⌝ }
+{
+    fill_words(&mut table[at..at + n], v);
+}
+
+// What pairs of a run and a gain stand for, out of src's bytes from a place on, into the table from a place on.
+pub fn runs_in(table: &mut [u16], at: usize, src: &[u8], from: usize)
+    requires { ⌜ (at + sumRuns (words (drop from (now src))) ≤ length (now table)) × (from ≤ 65536) ⌝ }
+    ensures { λ _. ⌜ now (table .exit) ≡ sets (now (table .entry)) at (expand (words (drop from (now (src .entry))))) ⌝ }
+{
+    let mut place = at;
+    let mut i = 0;
+    while from + 2 * i + 3 < src.len() {
+        let j = from + 2 * i;
+        let run = wire::number(src[j], src[j + 1]) as usize;
+        let gain = wire::number(src[j + 2], src[j + 3]);
+        fill_part(table, place, run, gain);
+        place += run;
+        i += 2;
+    }
+}
+
+// One number at n places of the table in bytes, from a place on.
+fn fill_part_bytes(table: &mut [u8], at: usize, n: usize, v: usize)
+    requires { ⌜ (2 * (at + n) ≤ length (now table)) × (v < 65536) ⌝ }
+    ensures { λ _. ⌜ now (table .exit) ≡ sets (now (table .entry)) (2 * at) (bytes (replicate n v)) ⌝ }
+{
+    fill_bytes(&mut table[2 * at..2 * at + 2 * n], v);
+}
+
+// The same into the bytes of a table.
+pub fn runs_in_bytes(table: &mut [u8], at: usize, src: &[u8], from: usize)
+    requires { ⌜ (2 * (at + sumRuns (words (drop from (now src)))) ≤ length (now table)) × (from ≤ 65536) ⌝ }
+    ensures { λ _. ⌜ now (table .exit) ≡ sets (now (table .entry)) (2 * at) (bytes (expand (words (drop from
+        (now (src .entry)))))) ⌝ }
+{
+    let mut place = at;
+    let mut i = 0;
+    while from + 2 * i + 3 < src.len() {
+        let j = from + 2 * i;
+        let run = wire::number(src[j], src[j + 1]) as usize;
+        let gain = wire::number(src[j + 2], src[j + 3]) as usize;
+        fill_part_bytes(table, place, run, gain);
+        place += run;
+        i += 2;
     }
 }

@@ -4,11 +4,14 @@ use mathlib.Core.Path.{_≡_}
 use mathlib.Core.Bool.{Bool, cond}
 use mathlib.Core.List.{List}
 use lib.Dec.{eqb}
+use Rattle.wire.specs.Tables.{words}
 use Rattle.packet.specs.Reading.{Answer, reading}
 use Rattle.packet.specs.Making.{Made, made}
 use Rattle.packet.specs.Promises.{PacketRead, PacketMade}
 use Rattle.reply.specs.Reading.{ReplyAnswer, replyReading, ReplyRead}
 use Rattle.controller8.specs.Bytes.{Lent, LentOut, lentOut, stepBytes, HandledBytes}
+use Rattle.compress.specs.Compressing.{CompressOut, compressOut, compressingBytes, CompressedBytes}
+use Rattle.split.specs.Splitting.{SplitOut, splitOut, splitting, SplitBytes}
 use Rattle.upload.specs.Planning.{Sheets, PlanOut, planOut, plannedBytes, PlannedBytes}
 
 -- ---- Reading, rule 2.6.
@@ -77,6 +80,27 @@ pub record PackedHandled (p : List ℕ) (l : Lent) (reply : List ℕ) (answer : 
   -- Rule 4.2: a status other than 0 leaves block, staged, live and gains, byte for byte, as they were.
   pub unchanged : (answer % 256 ≡ 0 → ⊥) → left ≡ l
   pub promise : HandledBytes p l reply (outIn answer left after)
+
+-- ---- Compressing gains, rule 10.2.
+
+-- Status in bits 0-7, the number of pairs from 8 on.
+abbrev pub packedCompress : CompressOut → ℕ
+packedCompress o = o .status + 256 * o .pairs
+
+pub record PackedCompress (gains room : List ℕ) (answer : ℕ) (left : List ℕ) : Type 0 where
+  pub packed : answer ≡ packedCompress (compressingBytes gains room)
+  pub promise : CompressedBytes gains room (compressOut (answer % 256) (answer / 256) left)
+
+-- ---- Splitting pairs, rule 10.4.
+
+-- The refusal in bits 0-7, the number of packets in 8-31, the batch's bytes from 32 on.
+abbrev pub packedSplit : SplitOut → ℕ
+packedSplit o = o .status + 256 * o .packets + 4294967296 * o .bytes
+
+pub record PackedSplit (colour start : ℕ) (pairs batch : List ℕ) (answer : ℕ) (left : List ℕ) : Type 0 where
+  pub packed : answer ≡ packedSplit (splitting 4 colour start pairs (words pairs) batch)
+  pub promise : SplitBytes colour start pairs batch
+      (splitOut (answer % 256) (answer / 256 % 16777216) (answer / 4294967296) left)
 
 -- ---- Planning, rule 6.4.
 

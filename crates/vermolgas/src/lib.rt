@@ -6,7 +6,8 @@ ghost use mathlib.Core.Bool.{not};
 ghost use lib.Dec.{eqb};
 ghost use Rattle.controller8.specs.Bytes.{lent, lentReset, ResetsBytes};
 ghost use Rattle.upload.specs.Planning.{sheets};
-ghost use Rattle.vermolgas.specs.Packed.{PackedRead, PackedMake, PackedReplyRead, PackedHandled, PackedPlan};
+ghost use Rattle.vermolgas.specs.Packed.{PackedRead, PackedMake, PackedReplyRead, PackedHandled};
+ghost use Rattle.vermolgas.specs.Packed.{PackedCompress, PackedSplit, PackedPlan};
 
 // Puts the block and all tables as they are after reset. The status is 0, or 1 for a wrong length.
 #[no_mangle]
@@ -83,6 +84,24 @@ pub extern "C" fn vermolgas_read_reply(reply: &[u8], checksum: u8) -> u64
         return r.refusal().number as u64;
     };
     256 * status as u64 + 65536 * size as u64
+}
+
+// Compresses gains: the fewest pairs of a run and a gain that stand for them.
+#[no_mangle]
+pub extern "C" fn vermolgas_compress(gains: &[u8], pairs: &mut [u8]) -> u64
+    ensures { λ r. ⌜ PackedCompress (now (gains .entry)) (now (pairs .entry)) r (now (pairs .exit)) ⌝ }
+{
+    let c = compress::bytes::compress(gains, pairs);
+    c.status as u64 + 256 * c.pairs as u64
+}
+
+// Splits pairs for a colour and a start into packets, back to back in the batch.
+#[no_mangle]
+pub extern "C" fn vermolgas_split(colour: u32, start: u32, pairs: &[u8], batch: &mut [u8]) -> u64
+    ensures { λ r. ⌜ PackedSplit colour start (now (pairs .entry)) (now (batch .entry)) r (now (batch .exit)) ⌝ }
+{
+    let s = split::bytes::split(colour, start, pairs, batch);
+    s.status as u64 + 256 * s.packets as u64 + 4294967296 * s.bytes as u64
 }
 
 // Plans an upload: the packets, back to back in the batch, that turn held into wanted in the fewest bytes.

@@ -1,6 +1,7 @@
 //! Data of commands that a state accepts.
 
 use twin::command::{Direction, Opcode};
+use twin::runs;
 
 use crate::generate;
 use crate::random::Random;
@@ -27,6 +28,7 @@ pub fn count(data: &[u8], opcode: Opcode, direction: Direction) -> usize {
     let word = |place| usize::from(u16::from_le_bytes([data[place], data[place + 1]]));
     match (opcode, direction) {
         (Opcode::Map, Direction::Write) => data.len() / 4,
+        (Opcode::Gains, Direction::Write) if data[0] == 1 => runs::length(data[6..].as_chunks().0),
         (Opcode::Map, Direction::Read) | (Opcode::Gains, Direction::Write) => word(2),
         (Opcode::Gains, Direction::Read) => word(3),
         _ => 0,

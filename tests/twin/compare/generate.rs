@@ -5,6 +5,7 @@ use std::ops::Range;
 
 use twin::command::{Colour, Direction, Opcode, Read, Target, Write};
 use twin::fields::Word;
+use twin::runs::{self, Pair, LONGEST_RUN};
 use twin::settings::{ControlPoints, Lists, Pin, Point, Pwm, Uart, PWM_PORTS};
 
 use crate::random::Random;
@@ -18,7 +19,7 @@ pub fn data(random: &mut Random, opcode: Opcode, direction: Direction, room: usi
 }
 
 fn write(random: &mut Random, opcode: Opcode, room: usize) -> Vec<u8> {
-    let (words, points, lists): (Vec<Word>, Vec<Point>, Lists);
+    let (words, pairs, points, lists): (Vec<Word>, Vec<Pair>, Vec<Point>, Lists);
     let write = match opcode {
         Opcode::Display => Write::Display(random.byte_within(0..=4)),
         Opcode::LowLatency => Write::LowLatency(random.flag()),
@@ -27,12 +28,15 @@ fn write(random: &mut Random, opcode: Opcode, room: usize) -> Vec<u8> {
         Opcode::SplashImage => Write::SplashImage(random.byte()),
         Opcode::Flip => Write::Flip(random.byte_within(0..=3)),
         Opcode::Freeze => Write::Freeze(random.flag()),
+        Opcode::Gains if random.flag() => {
+            let count = count(random, (room - 6) / 4);
+            pairs = fitting_pairs(random, count);
+            Write::CompressedGains { target: target(random), start: random.word(), pairs: &pairs }
+        }
         Opcode::Gains => {
             let count = count(random, (room - 6) / 2);
-            words = (0..count).map(|_| random.word_within(0..=8191).to_le_bytes()).collect();
-            let one = Target::One(random.pick(&Colour::ALL));
-            let target = random.pick(&[Target::All, one, one, one]);
-            Write::Gains { target, start: random.word(), words: &words }
+            words = (0..count).map(|_| gain(random)).collect();
+            Write::Gains { target: target(random), start: random.word(), words: &words }
         }
         Opcode::Map => {
             let count = count(random, (room - 2) / 4);
@@ -127,6 +131,21 @@ pub fn start_place(opcode: Opcode, direction: Direction) -> Option<Range<usize>>
 fn count(random: &mut Random, most: usize) -> usize {
     let most = if random.below(3) == 0 { most } else { most.min(8) };
     random.within(1..=most as u32) as usize
+}
+
+fn target(random: &mut Random) -> Target {
+    let one = Target::One(random.pick(&Colour::ALL));
+    random.pick(&[Target::All, one, one, one])
+}
+
+pub fn gain(random: &mut Random) -> Word {
+    random.word_within(0..=8191).to_le_bytes()
+}
+
+/// So many pairs that stand for no more gains than a colour has.
+pub fn fitting_pairs(random: &mut Random, count: usize) -> Vec<Pair> {
+    let most = LONGEST_RUN / count as u16;
+    (0..count).map(|_| runs::pair(random.word_within(1..=most), gain(random))).collect()
 }
 
 fn point(random: &mut Random) -> Point {

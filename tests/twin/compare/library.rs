@@ -55,6 +55,20 @@ extern "C" {
         batch: *mut u8,
         batch_length: usize,
     ) -> u64;
+    pub fn vermolgas_compress(
+        gains: *const u8,
+        gains_length: usize,
+        pairs: *mut u8,
+        pairs_length: usize,
+    ) -> u64;
+    pub fn vermolgas_split(
+        colour: u32,
+        start: u32,
+        pairs: *const u8,
+        pairs_length: usize,
+        batch: *mut u8,
+        batch_length: usize,
+    ) -> u64;
 }
 
 /// The entries, and whether NULL stands for an empty slice, as the header allows.
@@ -127,5 +141,15 @@ impl Library {
                 batch.0, batch.1,
             )
         }
+    }
+
+    pub fn compress(self, gains: &[u8], pairs: &mut [u8]) -> u64 {
+        let (gains, gains_length) = (self.pointer(gains), gains.len());
+        unsafe { vermolgas_compress(gains, gains_length, self.pointer_mut(pairs), pairs.len()) }
+    }
+
+    pub fn split(self, colour: u32, start: u32, pairs: &[u8], batch: &mut [u8]) -> u64 {
+        let (pairs, pairs_length) = (self.pointer(pairs), pairs.len());
+        unsafe { vermolgas_split(colour, start, pairs, pairs_length, self.pointer_mut(batch), batch.len()) }
     }
 }

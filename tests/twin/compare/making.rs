@@ -7,7 +7,7 @@ use twin::refusal::Refusal;
 use crate::bench::Bench;
 use crate::counts::OFTEN;
 use crate::generate;
-use crate::recipe::Packet;
+use crate::recipe::{never_together, Packet};
 
 /// The refusals that making gives.
 pub const REFUSALS: [Refusal; 7] = [
@@ -77,7 +77,8 @@ pub fn sizes(bench: &mut Bench) {
 /// Two faults at once: the one tried first is answered.
 pub fn order(bench: &mut Bench) {
     for (index, first) in REFUSALS.into_iter().enumerate() {
-        for second in REFUSALS.into_iter().skip(index + 1) {
+        let others = REFUSALS.into_iter().skip(index + 1);
+        for second in others.filter(|second| !never_together(first, *second)) {
             for _ in 0..OFTEN {
                 // A buffer too short is a fault of its own, beside any packet.
                 let (one, both, room) = match first {

@@ -1,22 +1,22 @@
 //! A mixed session for measuring.
 
 use twin::command::{Direction, Opcode};
+use twin::front_end::Memory;
 use twin::packet::{self, Header, LONGEST};
 use twin::scripts::hex;
 
-use crate::generate;
+use crate::fitting;
 use crate::random::Random;
 
 /// Reads and writes of all opcodes with any options, on a full map, one in sixteen damaged.
 pub fn session(random: &mut Random) -> Vec<Vec<u8>> {
     let mut session = Vec::new();
+    let reset = Memory::default();
     for _ in 0..4000 {
         let (opcode, direction) = (random.pick(&Opcode::ALL), random.pick(&Direction::BOTH));
         let header = 0x14 | random.byte() & 0x68 | if direction == Direction::Read { 0x80 } else { 0 };
-        let mut data = generate::data(random, opcode, direction, LONGEST - 6);
-        if let Some(place) = generate::start_place(opcode, direction) {
-            data[place].copy_from_slice(&(random.below(1700) as u16).to_le_bytes());
-        }
+        let limit = fitting::limit(&reset.block, opcode);
+        let mut data = fitting::data(random, opcode, direction, LONGEST - 6, limit);
         if (opcode, direction, data.first()) == (Opcode::ControlPoints, Direction::Write, Some(&0)) {
             data = hex("00 3E 00 20 00");
         }

@@ -36,6 +36,7 @@ fn main() -> ExitCode {
     bench.group("read and make, limits", reading::limits);
     bench.group("read and make, lists of 35h", reading::lists);
     bench.group("read and make, gains of 2Bh", reading::gains);
+    bench.group("read and make, pairs of 2Bh", reading::pairs);
     bench.group("read and make, sizes", reading::sizes);
     bench.group("read, damaged", reading::damaged);
     bench.group("read, checksums", checksums::of_packets);

@@ -5,6 +5,7 @@
 //! counts that fall short are failures.
 
 mod covers;
+mod guarded;
 #[allow(dead_code, reason = "each program calls some of the entries")]
 mod library;
 #[allow(dead_code, reason = "each program draws some kinds of numbers")]

@@ -3,12 +3,12 @@
 use twin::command::Opcode;
 use twin::fields::checksum;
 use twin::packet::{self, Header, LONGEST};
-use twin::refusal::Refusal;
+use twin::runs;
 
 use crate::bench::Bench;
 use crate::counts::{commands, headers, OFTEN};
 use crate::generate;
-use crate::recipe::{other_opcode, Packet, FAULTS};
+use crate::recipe::{never_together, other_opcode, Packet, FAULTS};
 
 /// Data as a packet's, in a frame without a fault, and as what a packet is made from.
 fn read_and_make(bench: &mut Bench, header: u8, opcode: Opcode, data: &[u8]) {
@@ -169,23 +169,57 @@ pub fn lists(bench: &mut Bench) {
 pub fn gains(bench: &mut Bench) {
     for there in [0, 1, 2, 3, 125, 250, 251, 252, 253] {
         let words: Vec<u16> = (0..there).map(|_| bench.random.word_within(0..=8191)).collect();
-        for step in [0, 1, 2, 256, 32_766, 32_767, 32_768, 32_770, 65_533, 65_534, 65_535] {
-            for (flag, colour) in (0..4).flat_map(|flag| (0..6).map(move |colour| (flag, colour))) {
-                let head = word_bytes(&[(there as u16).wrapping_add(step), bench.random.word()]);
-                let data = [&[flag, colour][..], &head, &word_bytes(&words)].concat();
-                read_and_make(bench, 0x14, Opcode::Gains, &data);
-            }
-        }
+        other_heads(bench, &words);
         for place in 0..there {
-            for word in [8190, 8191, 8192, 8193, 0x3FFF, 0x4000, 0x8000, 0xFF1F, 0xFFFF] {
-                let mut changed = words.clone();
-                changed[place] = word;
-                let flag = u8::from(bench.random.below(4) == 0);
-                let head = word_bytes(&[there as u16, bench.random.word()]);
-                let data = [&[flag, 3][..], &head, &word_bytes(&changed)].concat();
-                read_and_make(bench, 0x14, Opcode::Gains, &data);
-            }
+            let flag = u8::from(bench.random.below(4) == 0);
+            other_words(bench, flag, &words, place, &GAIN_LIMITS);
         }
+    }
+}
+
+/// 2Bh writes with flag 1: the same, with each run at its limits, too.
+pub fn pairs(bench: &mut Bench) {
+    for there in [1, 2, 3, 62, 125, 126] {
+        let pairs = generate::fitting_pairs(&mut bench.random, there);
+        let words: Vec<u16> = pairs.iter().flat_map(|pair| [runs::run(pair), gain_of(pair)]).collect();
+        other_heads(bench, &words);
+        for place in 0..words.len() {
+            let limits = if place % 2 == 0 { RUN_LIMITS } else { GAIN_LIMITS };
+            other_words(bench, 1, &words, place, &limits);
+        }
+        for half in [1, 2 * there - 1] {
+            other_heads(bench, &words[..half]);
+        }
+    }
+}
+
+/// Gains and runs around their limits, also where a byte or a bit of them is left out.
+const GAIN_LIMITS: [u16; 9] = [8190, 8191, 8192, 8193, 0x3FFF, 0x4000, 0x8000, 0xFF1F, 0xFFFF];
+const RUN_LIMITS: [u16; 9] = [0, 1, 2015, 2016, 2017, 0x1000, 0x87E0, 0xFF00, 0xFFFF];
+
+fn gain_of(pair: &runs::Pair) -> u16 {
+    u16::from_le_bytes(runs::gain(pair))
+}
+
+/// Words of a 2Bh write behind each flag, colour and count.
+fn other_heads(bench: &mut Bench, words: &[u16]) {
+    for step in [0, 1, 2, 256, 32_766, 32_767, 32_768, 32_770, 65_533, 65_534, 65_535] {
+        for (flag, colour) in (0..4).flat_map(|flag| (0..6).map(move |colour| (flag, colour))) {
+            let head = word_bytes(&[(words.len() as u16).wrapping_add(step), bench.random.word()]);
+            let data = [&[flag, colour][..], &head, &word_bytes(words)].concat();
+            read_and_make(bench, 0x14, Opcode::Gains, &data);
+        }
+    }
+}
+
+/// Words of a 2Bh write, one of them each of these in turn.
+fn other_words(bench: &mut Bench, flag: u8, words: &[u16], place: usize, others: &[u16]) {
+    for word in others {
+        let mut changed = words.to_vec();
+        changed[place] = *word;
+        let head = word_bytes(&[words.len() as u16, bench.random.word()]);
+        let data = [&[flag, 3][..], &head, &word_bytes(&changed)].concat();
+        read_and_make(bench, 0x14, Opcode::Gains, &data);
     }
 }
 
@@ -312,9 +346,7 @@ pub fn long(bench: &mut Bench) {
 pub fn order(bench: &mut Bench) {
     for (index, first) in FAULTS.into_iter().enumerate() {
         for second in FAULTS.into_iter().skip(index + 1) {
-            // No packet is too short and too long; none has a wrong length field and has none.
-            let never = [(Refusal::TooShort, Refusal::TooLong), (Refusal::Length, Refusal::LengthMissing)];
-            if never.contains(&(first, second)) {
+            if never_together(first, second) {
                 continue;
             }
             for _ in 0..OFTEN {

@@ -22,6 +22,18 @@ pub const FAULTS: [Refusal; 10] = [
     Refusal::NotCarried,
 ];
 
+/// Whether no packet can call for both refusals: none is too short and too long; none has a wrong
+/// length field and has none; and what is named but not carried is one value of a command that has one
+/// size of data and no start.
+pub fn never_together(first: Refusal, second: Refusal) -> bool {
+    let beside_not_carried = [Refusal::LengthMissing, Refusal::Range, Refusal::PastTable];
+    match (first, second) {
+        (Refusal::TooShort, Refusal::TooLong) | (Refusal::Length, Refusal::LengthMissing) => true,
+        (Refusal::NotCarried, other) | (other, Refusal::NotCarried) => beside_not_carried.contains(&other),
+        _ => false,
+    }
+}
+
 /// A packet's fields, how far the length field and the checksum are off, and how many bytes of it
 /// are kept.
 #[derive(Clone)]
@@ -141,10 +153,8 @@ impl Packet {
                 (packet.fault()? == fault).then_some(())?;
             }
             Refusal::Range => {
-                // A flag that is at fault already stays.
-                let first = usize::from(self.fault() == Some(Refusal::NotCarried));
-                let places = self.data.len().checked_sub(first).filter(|places| *places > 0)?;
-                packet.data[first + random.below(places)] = random.byte();
+                let places = Some(self.data.len()).filter(|places| *places > 0)?;
+                packet.data[random.below(places)] = random.byte();
                 (packet.fault()? == fault).then_some(())?;
             }
             Refusal::NotCarried => {

@@ -7,6 +7,8 @@
 //! `VERMOLGAS_REPLAY=target/bin/replay cargo run --profile speed --offline --locked --manifest-path
 //! tests/twin/Cargo.toml --bin bench_replay`
 
+#[allow(dead_code, reason = "a session for measuring is accepted")]
+mod fitting;
 #[allow(dead_code, reason = "packets are made for a mixed session alone")]
 mod generate;
 mod measure;

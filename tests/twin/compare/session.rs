@@ -1,7 +1,7 @@
 //! Twin and library side by side, each on memory of its own, compared in full after each call.
 
 use twin::block;
-use twin::command::Opcode;
+use twin::command::{Direction, Opcode};
 use twin::front_end::{self, Answer, Lent, GAINS_BYTES, MAP_BYTES};
 use twin::packet::{Header, LONGEST};
 
@@ -82,6 +82,8 @@ pub struct Session {
     pub report: Report,
     pub accepted: Accepted,
     pub refused: Refused,
+    /// How often compressed gains were accepted, by their colour.
+    pub compressed: [u64; 4],
     /// How the entries are called.
     pub entries: Library,
     twin: Side,
@@ -100,6 +102,7 @@ impl Session {
             report,
             accepted: Accepted::default(),
             refused: Refused::default(),
+            compressed: [0; 4],
             entries: LIBRARY,
             twin: side.clone(),
             library: side,
@@ -218,7 +221,12 @@ impl Session {
         if answer.status != 0 {
             self.refused.count(answer.status);
         } else if let Some(opcode) = Opcode::find(packet[1].into()) {
-            self.accepted.count(opcode, Header::from_byte(packet[0]));
+            let header = Header::from_byte(packet[0]);
+            self.accepted.count(opcode, header);
+            let data = &packet[header.options.data_offset()..];
+            if (opcode, header.direction, data.first()) == (Opcode::Gains, Direction::Write, Some(&1)) {
+                self.compressed[usize::from(data[1])] += 1;
+            }
         }
     }
 

@@ -3,6 +3,7 @@
 //! buffer included. The seed may be given as the one argument; it and all counts are printed, and
 //! counts that fall short are failures.
 
+mod compressed;
 mod counts;
 mod fitting;
 mod generate;
@@ -21,6 +22,9 @@ use report::Report;
 use session::Session;
 use twin::refusal::Refusal;
 
+/// Compressed gains are accepted at least so often for each colour.
+const COMPRESSED: u64 = 4_000;
+
 fn main() -> ExitCode {
     let mut session = match Report::from_arguments() {
         Ok(report) => Session::new(report),
@@ -33,6 +37,12 @@ fn main() -> ExitCode {
     session.group("apply, then anything", talking::apply);
     session.group("lists, smooth points and levels kept", talking::kept);
     session.group("gains", talking::gains);
+    session.group("compressed gains, every start", compressed::every_start);
+    session.group("compressed gains, limits of runs and gains", compressed::limits);
+    session.group("compressed gains, counts, flags and colours", compressed::counts);
+    session.group("compressed gains, order of refusals", compressed::order);
+    session.group("compressed gains, damaged", compressed::damaged);
+    session.group("compressed gains, random pairs", compressed::random_pairs);
     session.group("random bytes", talking::random_bytes);
     session.group("lent lengths", lending::lengths);
     session.group("NULL for an empty slice", lending::null_pointers);
@@ -43,6 +53,9 @@ fn main() -> ExitCode {
 
     let (report, accepted, refused) = (&mut session.report, &session.accepted, &session.refused);
     accepted.check(report, "accepted");
+    let compressed = session.compressed;
+    let said = format!("{compressed:?} for all colours and for each, at least {COMPRESSED} each");
+    report.close("compressed gains accepted", compressed.iter().all(|count| *count >= COMPRESSED), &said);
     let refusals = recipe::FAULTS.into_iter().chain([Refusal::PastTable]);
     refused.check(report, "refused", &Vec::from_iter([Refusal::Lent].into_iter().chain(refusals)));
     counts::check_inputs(report);

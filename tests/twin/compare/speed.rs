@@ -3,6 +3,9 @@
 //!
 //! `cargo run --profile speed --offline --locked --manifest-path tests/twin/Cargo.toml --bin bench_front_end`
 
+#[allow(dead_code, reason = "a session for measuring is accepted")]
+mod fitting;
+#[allow(dead_code, reason = "packets are made for a mixed session alone")]
 mod generate;
 #[allow(dead_code, reason = "each program calls some of the entries")]
 mod library;
@@ -110,10 +113,12 @@ fn calls_a_second(call: Call, packets: &[Option<&[u8]>], memory: &mut Memory) ->
 mod stack {
     use std::arch::asm;
 
+    use twin::compressor::PAIRS_BYTES;
     use twin::front_end::{Memory, MAP_BYTES};
     use twin::packet::LONGEST;
     use twin::planner::{BATCH_BYTES, CHOICES_BYTES, PLAN_BYTES, ROOM_BYTES};
-    use twin::settings::POINTS;
+    use twin::settings::{GAINS, POINTS};
+    use twin::splitter;
 
     use crate::library;
 
@@ -221,6 +226,7 @@ mod stack {
         let tables = [lent.block, lent.staged, lent.live, lent.gains].map(slice);
         reset.call(library::vermolgas_reset as *const (), tables.as_flattened());
         let plan = planning();
+        let [compress, split] = packing();
 
         println!("stack written by an entry, its return address included, in bytes");
         for (name, painted) in [
@@ -230,9 +236,28 @@ mod stack {
             ("vermolgas_make", make),
             ("vermolgas_read_reply", read_reply),
             ("vermolgas_plan", plan),
+            ("vermolgas_compress", compress),
+            ("vermolgas_split", split),
         ] {
             println!("{name:<28}{:>10}", painted.most);
         }
+    }
+
+    /// A colour's gains compressed and split: all alike, all different.
+    fn packing() -> [Painted; 2] {
+        let [mut compress, mut split] = std::array::from_fn(|_| Painted::new(BYTES));
+        for step in [0, 4] {
+            let mut gains: Vec<u8> =
+                (0..GAINS as u16).flat_map(|place| (step * place).to_le_bytes()).collect();
+            let (mut pairs, mut batch) = (vec![0; PAIRS_BYTES], vec![0; splitter::BATCH_BYTES]);
+            let arguments = [slice(&mut gains), slice(&mut pairs)];
+            compress.call(library::vermolgas_compress as *const (), arguments.as_flattened());
+            // One pair, or one for each gain.
+            let used = if step == 0 { 4 } else { PAIRS_BYTES };
+            let arguments = [[1, 0], slice(&mut pairs[..used]), slice(&mut batch)];
+            split.call(library::vermolgas_split as *const (), arguments.as_flattened());
+        }
+        [compress, split]
     }
 
     /// Plans for full maps: none of the points differs, all do, every second, every third.

@@ -10,7 +10,7 @@ use crate::counts::{headers, OFTEN};
 use crate::fitting;
 use crate::generate;
 use crate::lending;
-use crate::recipe::{Packet, FAULTS};
+use crate::recipe::{never_together, Packet, FAULTS};
 use crate::report;
 use crate::session::{Part, Session};
 
@@ -179,7 +179,7 @@ fn edges(limit: usize, count: usize) -> Vec<(u16, u8)> {
 /// and refusal 1 above them all.
 pub fn order(session: &mut Session) {
     session.restart();
-    for first in FAULTS {
+    for first in FAULTS.into_iter().filter(|first| !never_together(*first, Refusal::PastTable)) {
         for _ in 0..OFTEN {
             let (one, both) = Packet::pair(&mut session.random, first, Refusal::PastTable);
             expect_status(session, &one.bytes(), Refusal::PastTable.number());

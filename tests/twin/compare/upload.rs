@@ -11,13 +11,11 @@ use twin::planner::{
 use twin::refusal::Refusal;
 use twin::settings::{Point, POINTS};
 
+use crate::guarded::Guarded;
 use crate::library::{Library, LIBRARY};
 use crate::random::Random;
 use crate::report::Report;
 use crate::rooms;
-
-/// Bytes before and behind a lent buffer that must stay as they are.
-const GUARD: usize = 16;
 
 /// The longest buffer lent.
 pub const LARGEST: usize = 0x1_0000 + 8031;
@@ -74,20 +72,6 @@ impl Lengths {
         let right = Lengths::right(points);
         let (room, choices, batch) = (right.room + room, right.choices + choices, right.batch + batch);
         Lengths { room, choices, batch, ..right }
-    }
-}
-
-/// A buffer that is written: what is lent, with guards around it.
-#[derive(Clone, PartialEq, Eq)]
-struct Guarded {
-    bytes: Vec<u8>,
-    guard: usize,
-}
-
-impl Guarded {
-    fn lent(&mut self) -> &mut [u8] {
-        let end = self.bytes.len() - GUARD;
-        &mut self.bytes[self.guard..end]
     }
 }
 
@@ -149,14 +133,6 @@ impl Upload {
         self.report.expect(holds, what);
     }
 
-    /// A buffer that holds anything, at any address.
-    fn guarded(&mut self, length: usize) -> Guarded {
-        let guard = GUARD + self.random.below(8);
-        let start = self.random.below(LARGEST / 2);
-        let bytes = self.filling[start..start + guard + length + GUARD].to_vec();
-        Guarded { bytes, guard }
-    }
-
     /// `vermolgas_plan` against the twin: the answer, and every byte lent or around it. Gives the
     /// twin's answer, and what the library wrote.
     fn compare(
@@ -168,7 +144,7 @@ impl Upload {
     ) -> (Result<Planned, Refusal>, Written) {
         self.report.inputs += 1;
         let lent = [lengths.plan, lengths.room, lengths.choices, lengths.batch];
-        let mut due_written = lent.map(|length| self.guarded(length));
+        let mut due_written = lent.map(|length| Guarded::new(&mut self.random, &self.filling, length));
         let mut written = due_written.clone();
         let expected = planner::plan(points, lend(held, wanted, &mut due_written));
         let answer = self.entries.plan(points, lend(held, wanted, &mut written));
@@ -177,14 +153,8 @@ impl Upload {
         self.expect(answer == due, || format!("plan gives {answer:#x}, not {due:#x}: {}", input()));
         let names = ["plan", "room", "choices", "batch"];
         for (name, (written, due)) in names.iter().zip(written.iter().zip(&due_written)) {
-            if written != due {
-                let place = written.bytes.iter().zip(&due.bytes).position(|(byte, due)| byte != due);
-                let place = place.unwrap_or_default();
-                let (byte, due) = (written.bytes[place], due.bytes[place]);
-                let offset = place as i64 - written.guard as i64;
-                self.expect(false, || {
-                    format!("{name} has {byte:02X}, not {due:02X}, at {offset}: {}", input())
-                });
+            if let Some(difference) = written.difference(due) {
+                self.expect(false, || format!("{name} has {difference}: {}", input()));
             }
         }
         (expected, written)

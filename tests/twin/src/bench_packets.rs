@@ -8,6 +8,7 @@ use crate::packet::{self, assemble, Header};
 use crate::planner::{self, Planned};
 use crate::refusal::Refusal;
 use crate::reply::{self, Reply};
+use crate::runs;
 use crate::scripts::{hex, SCRIPTS};
 use crate::settings::{Settings, Shape};
 
@@ -73,6 +74,9 @@ fn bench_packets_read() {
     let words = &[5120_u16.to_le_bytes()];
     let gains = Write::Gains { target: Target::One(Colour::Red), start: 2015, words };
     assert_reads("14 2B 08 00 00 01 01 00 DF 07 00 14", Ok(Command::Write(gains)));
+    let pairs = &[runs::pair(2, 5120_u16.to_le_bytes())];
+    let compressed = Write::CompressedGains { target: Target::One(Colour::Red), start: 2014, pairs };
+    assert_reads("14 2B 0A 00 01 01 02 00 DE 07 02 00 00 14", Ok(Command::Write(compressed)));
 }
 
 #[test]
@@ -94,13 +98,15 @@ fn scripts_give_their_answers() {
 }
 
 #[test]
-fn bench_packets_change_one_entry() {
+fn bench_packets_change_what_they_name() {
     let mut expected = Memory::default();
     expected.staged[4 * 1983..].copy_from_slice(&[1, 0, 2, 0]);
     assert_eq!(after(&["14 34 06 00 BF 07 01 00 02 00"]), expected);
     let mut expected = Memory::default();
     expected.gains[2 * 2015..2 * 2016].copy_from_slice(&[0x00, 0x14]);
     assert_eq!(after(&["14 2B 08 00 00 01 01 00 DF 07 00 14"]), expected);
+    expected.gains[2 * 2014..2 * 2015].copy_from_slice(&[0x00, 0x14]);
+    assert_eq!(after(&["14 2B 0A 00 01 01 02 00 DE 07 02 00 00 14"]), expected);
     let mut expected = Memory::default();
     expected.block[block::DISPLAY] = 1;
     assert_eq!(after(&["04 11 01"]), expected);
@@ -311,7 +317,7 @@ fn a_setting_out_of_range_is_refused_first() {
 }
 
 #[test]
-fn exceptions_to_the_order_of_9_10_and_11() {
+fn sizes_and_values_of_2bh_35h_and_38h() {
     assert_eq!(refusal("14 35 00 00"), 9);
     assert_eq!(refusal("14 35 01 00 02"), 10);
     assert_eq!(refusal("14 35 01 00 01"), 9);
@@ -320,12 +326,15 @@ fn exceptions_to_the_order_of_9_10_and_11() {
     assert_eq!(refusal("14 38 02 00 02 03"), 10);
     assert_eq!(refusal("14 38 02 00 03 06"), 10);
     assert_eq!(refusal("14 38 02 00 03 03"), 9);
-    // Count 0, colour 4 and a word too large, each with flag 1.
+    // Count 0, colour 4 and a word too large; with flag 1 an odd count comes before them.
     assert_eq!(refusal("14 2B 06 00 00 01 00 00 00 00"), 10);
     assert_eq!(refusal("14 2B 06 00 01 01 00 00 00 00"), 10);
-    assert_eq!(refusal("14 2B 08 00 01 04 01 00 00 00 00 00"), 10);
-    assert_eq!(refusal("14 2B 08 00 01 01 01 00 00 00 28 23"), 11);
+    assert_eq!(refusal("14 2B 08 00 00 04 01 00 00 00 00 00"), 10);
+    assert_eq!(refusal("14 2B 08 00 01 04 01 00 00 00 00 00"), 9);
+    assert_eq!(refusal("14 2B 08 00 01 01 01 00 00 00 28 23"), 9);
     assert_eq!(refusal("14 2B 08 00 00 01 01 00 00 00 28 23"), 10);
+    assert_eq!(refusal("14 2B 08 00 02 01 01 00 00 00 28 03"), 10);
+    assert_eq!(refusal("14 2B 08 00 02 01 02 00 00 00 28 03"), 9);
     // A count of 32,769 asks for 2 bytes in 16 bits.
     assert_eq!(refusal("14 2B 08 00 00 01 01 80 00 00 00 14"), 9);
 }
@@ -361,9 +370,16 @@ fn headers_and_commands_go_both_ways() {
 
 #[test]
 fn making_gives_the_bench_packets() {
-    for text in
-        ["04 11 01", "84 11", "44 11 01", "0C 11 00 01", "24 11 01 8F", "14 34 06 00 BF 07 01 00 02 00"]
-    {
+    for text in [
+        "04 11 01",
+        "84 11",
+        "44 11 01",
+        "0C 11 00 01",
+        "24 11 01 8F",
+        "14 34 06 00 BF 07 01 00 02 00",
+        "14 2B 08 00 00 01 01 00 DF 07 00 14",
+        "14 2B 0A 00 01 01 02 00 DE 07 02 00 00 14",
+    ] {
         let expected = hex(text);
         let reading = packet::read(&expected).unwrap();
         assert_eq!(assemble(reading.options, &reading.command), expected);

@@ -2,6 +2,7 @@
 
 use crate::fields::{within, Fields, OutOfRange, Word};
 use crate::refusal::Refusal;
+use crate::runs::{self, Pair};
 use crate::settings::{curtain_colour, ControlPoints, Pin, Point, Pwm, Uart, PINS, PWM_PORTS, UARTS};
 
 impl From<OutOfRange> for Refusal {
@@ -151,8 +152,10 @@ pub enum Write<'a> {
     Flip(u8),
     /// 1Dh.
     Freeze(bool),
-    /// 2Bh, rule 5.8: as many words, 0-8191, as the packet counts, uncompressed.
+    /// 2Bh with flag 0, rule 5.8: as many words, 0-8191, as the packet counts.
     Gains { target: Target, start: u16, words: &'a [Word] },
+    /// 2Bh with flag 1, rule 5.11: one pair or more of a run, 1-2,016, and a gain, 0-8191.
+    CompressedGains { target: Target, start: u16, pairs: &'a [Pair] },
     /// 34h, rule 5.4: one point or more.
     Map { start: u16, points: &'a [Point] },
     /// 35h, rule 5.5.
@@ -177,7 +180,7 @@ pub enum Write<'a> {
 
 impl<'a> Write<'a> {
     /// A write's data as what it asks for: refusals 9, 10 and 11, in this order, with the
-    /// exceptions of rules 5.8 and 5.9 for 2Bh, 35h and 38h.
+    /// exceptions of rule 5.9 for 35h and 38h.
     pub fn parse(opcode: Opcode, data: &'a [u8]) -> Result<Self, Refusal> {
         Ok(match opcode {
             Opcode::Display => Write::Display(within(sized(data, 1)?.byte(), 0..=4)?),
@@ -217,27 +220,24 @@ impl<'a> Write<'a> {
         })
     }
 
-    /// 2Bh, rule 5.8: compression, colour, count, start, words. A count of 0 is out of range; with
-    /// flag 1 it is refusal 11, whatever the words.
+    /// 2Bh, rules 5.8, 5.9 and 5.11: compression, colour, count, start, words. A count of 0 is out of range; with
+    /// flag 1 an odd one is a wrong size.
     fn parse_gains(data: &'a [u8]) -> Result<Self, Refusal> {
         let (head, words) = data.split_at_checked(6).ok_or(Refusal::Size)?;
         let mut fields = Fields::new(head);
         let (compression, colour, count, start) =
             (fields.byte(), fields.byte(), fields.word(), fields.word());
-        if words.len() != 2 * usize::from(count) {
+        if words.len() != 2 * usize::from(count) || compression == 1 && count % 2 == 1 {
             return Err(Refusal::Size);
         }
-        within(compression, 0..=1)?;
         let target = Target::from_byte(colour)?;
         within(count, 1..=u16::MAX)?;
-        if compression == 1 {
-            return Err(Refusal::NotCarried);
-        }
-        let words = Fields::new(words).all();
-        if words.iter().any(|word| u16::from_le_bytes(*word) > 8191) {
-            return Err(Refusal::Range);
-        }
-        Ok(Write::Gains { target, start, words })
+        let mut words = Fields::new(words);
+        Ok(match compression {
+            0 => Write::Gains { target, start, words: runs::gains_in_range(words.all())? },
+            1 => Write::CompressedGains { target, start, pairs: runs::pairs_in_range(words.all())? },
+            _ => return Err(Refusal::Range),
+        })
     }
 
     /// 34h, rule 5.9: a start, and one point or more of 4 bytes.
@@ -279,7 +279,7 @@ impl<'a> Write<'a> {
             Write::SplashImage(_) => Opcode::SplashImage,
             Write::Flip(_) => Opcode::Flip,
             Write::Freeze(_) => Opcode::Freeze,
-            Write::Gains { .. } => Opcode::Gains,
+            Write::Gains { .. } | Write::CompressedGains { .. } => Opcode::Gains,
             Write::Map { .. } => Opcode::Map,
             Write::ControlPoints(_) => Opcode::ControlPoints,
             Write::Apply(_) => Opcode::Apply,
@@ -304,9 +304,9 @@ impl<'a> Write<'a> {
                 vec![u8::from(*flag)]
             }
             Write::Look(look) => look.to_le_bytes().to_vec(),
-            Write::Gains { target, start, words } => {
-                let (count, start) = ((words.len() as u16).to_le_bytes(), start.to_le_bytes());
-                [&[0, target.byte()], &count[..], &start, words.as_flattened()].concat()
+            Write::Gains { target, start, words } => gains_data(0, *target, *start, words.as_flattened()),
+            Write::CompressedGains { target, start, pairs } => {
+                gains_data(1, *target, *start, pairs.as_flattened())
             }
             Write::Map { start, points } => [&start.to_le_bytes(), points.as_flattened()].concat(),
             Write::ControlPoints(written) => written.bytes(),
@@ -473,6 +473,12 @@ fn sized(data: &[u8], size: usize) -> Result<Fields<'_>, Refusal> {
     } else {
         Err(Refusal::Size)
     }
+}
+
+/// The data of a 2Bh write, whose count is that of its words.
+fn gains_data(compression: u8, target: Target, start: u16, words: &[u8]) -> Vec<u8> {
+    let (count, start) = ((words.len() as u16 / 2).to_le_bytes(), start.to_le_bytes());
+    [&[compression, target.byte()], &count[..], &start, words].concat()
 }
 
 /// 60h and 61h: pin 0-87.

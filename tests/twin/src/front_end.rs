@@ -12,6 +12,7 @@ use crate::fields::{Fields, Word};
 use crate::packet::{self, Header, LONGEST};
 use crate::refusal::Refusal;
 use crate::reply;
+use crate::runs;
 use crate::settings::{ControlPoints, Point, Settings, COLUMNS, GAINS, POINTS, PWM_PORTS, ROWS};
 
 /// Bytes of the staged and of the live map.
@@ -125,11 +126,11 @@ impl<'a> State<'a> {
             Write::Freeze(flag) => block[block::FREEZE] = flag.into(),
             Write::Gains { target, start, words } => {
                 let place = place(start, words.len(), GAINS)?;
-                for colour in Colour::ALL {
-                    if target == Target::All || target == Target::One(colour) {
-                        self.gains[third(colour)][place.clone()].copy_from_slice(words);
-                    }
-                }
+                self.each_colour(target, |gains| gains[place.clone()].copy_from_slice(words));
+            }
+            Write::CompressedGains { target, start, pairs } => {
+                let place = place(start, runs::length(pairs), GAINS)?;
+                self.each_colour(target, |gains| runs::expand(pairs, &mut gains[place.clone()]));
             }
             Write::Map { start, points } => {
                 let place = place(start, points.len(), self.staged_points())?;
@@ -156,6 +157,15 @@ impl<'a> State<'a> {
             Write::Uart { port, config } => block[block::uart(port)].copy_from_slice(&config.bytes()),
         }
         Ok(())
+    }
+
+    /// Writes the gains of each colour that is named.
+    fn each_colour(&mut self, target: Target, mut write: impl FnMut(&mut [Word; GAINS])) {
+        for colour in Colour::ALL {
+            if target == Target::All || target == Target::One(colour) {
+                write(&mut self.gains[third(colour)]);
+            }
+        }
     }
 
     fn read(&self, read: &Read) -> Result<Data<'_>, Refusal> {

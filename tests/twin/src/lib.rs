@@ -10,14 +10,19 @@
 //! - [`settings`]: the typed settings, their ranges and their values after reset;
 //! - [`block`]: the layout of the settings block, both ways (refusal 1);
 //! - [`front_end`]: one packet on what a host lends (refusals 1 and 12, effects, the reply), and reset;
+//! - [`runs`]: compressed gains: pairs of a run and a gain, and what they stand for;
+//! - [`compressor`] and [`splitter`]: gains as the fewest pairs, and pairs as packets (refusals 9, 10, 12, 1);
 //! - [`planner`]: upload planning (refusals 10 and 1, plan, room, choices and batch);
 //! - [`replay`]: session files, and what a replay prints;
 //! - [`scripts`]: sessions by hand, each packet with its answer.
 
 #[cfg(test)]
+mod bench_gains;
+#[cfg(test)]
 mod bench_packets;
 pub mod block;
 pub mod command;
+pub mod compressor;
 pub mod fields;
 pub mod front_end;
 pub mod packet;
@@ -25,5 +30,7 @@ pub mod planner;
 pub mod refusal;
 pub mod replay;
 pub mod reply;
+pub mod runs;
 pub mod scripts;
 pub mod settings;
+pub mod splitter;

@@ -20,13 +20,13 @@ pub enum Refusal {
     Opcode = 7,
     /// A write of variable size lacks its length field.
     LengthMissing = 8,
-    /// The command does not take data of this size.
+    /// The command does not take data of this size, or its words do not come in pairs where they have to.
     Size = 9,
     /// Some value is out of its range, or reserved.
     Range = 10,
-    /// Compressed gains or merge mode, which the guides name and which are not carried.
+    /// Merge mode, which the guides name and which is not carried.
     NotCarried = 11,
-    /// Start + count goes past the end of the table.
+    /// Start + count, or start + runs, goes past the end of the table.
     PastTable = 12,
 }
 

@@ -40,21 +40,13 @@ returns c =
       ← at-named .points-named .ensures .count,
     )
 
-gains-named-requires : tie.Need-gains-named-requires
-gains-named-requires c κs = search needs
-
-add-result-2 : tie.Need-add-result-2
-add-result-2 c = search needs
+gains-past-requires : tie.Need-gains-past-requires
+gains-past-requires c κs = tt
 
 returns-2 : tie.Need-returns-2
 unfolding runsPast
 returns-2 c =
-    simp (
-      ne-eqb _ _ (c .before .before .before .if1 .left),
-      eq-eqb _ _ (c .before .before .if2 .taken),
-      ← c .before .gains-named .ensures .start,
-      ← c .before .gains-named .ensures .count,
-    )
+    simp (ne-eqb _ _ (c .before .before .if1 .left), eq-eqb _ _ (c .before .if2 .taken), ← c .gains-past .ensures)
 
 returns-3 : tie.Need-returns-3
 unfolding runsPast
@@ -70,7 +62,6 @@ runs-past-spec =
     mul-points
     add-result
     returns
-    gains-named-requires
-    add-result-2
+    gains-past-requires
     returns-2
     returns-3)

@@ -1,9 +1,7 @@
--- The words of an accepted write lie within a third of the table; for colour 0 they are stored three times, a third apart.
-use mathlib.Core.Path.{_≡_, sym, _∙_}
+-- The gains of an accepted write lie within a third of the table; for colour 0 they are stored three times, a third apart.
+use mathlib.Core.Path.{sym, _∙_}
 use native.Mathlib.Omega.{arith}
 use borrow.Author.Tests.{ne-eqb}
-use lib.ListN.{length}
-use Rattle.controller.specs.Commands.{gainsWords}
 use Rattle.controller.specs.Internal.{GainsWrite}
 use Rattle.controller.proofs.Grants.{gains-one, gains-three}
 use borrow.Author.Needs.{needs}
@@ -13,58 +11,60 @@ use Rattle.controller16.proofs.store_gains.Tie as tie
 granted : (c : tie.After-gains-named) → GainsWrite (c .before .before .before .before .args .«data» .now)
 granted c = c .before .before .before .before .pre .0 (c .before .if1 .left)
 
--- The words of the packet are as many as its count.
-all : (c : tie.After-gains-named) → c .gains-named .result .count ≡ length (gainsWords (c .before .before .before .before .args .«data» .now))
-all c = c .gains-named .ensures .count ∙ sym (granted c .numbers)
-
 returns : tie.Need-returns
 returns c = rw (ne-eqb _ _ (c .if1 .taken))
 
 gains-named-requires : tie.Need-gains-named-requires
 gains-named-requires c κs = search needs
 
-words-in-requires : tie.Need-words-in-requires
-words-in-requires c κs = omega (arith, granted (c .before))
+put-gains-requires : tie.Need-put-gains-requires
+put-gains-requires c κs = let w = granted (c .before) in (w, omega (arith, w))
 
 same-length : tie.Need-same-length
 same-length c = search needs
 
 returns-2 : tie.Need-returns-2
 returns-2 c =
-    let at-in = c .before .before .before .before in
-    let at-named = at-in .before .before in
+    let put = c .before .before .before .before in
+    let at-named = put .before .before in
     let named = at-named .gains-named .ensures in
+    let args = at-named .before .before .before .before .args in
     rw (at-named .before .if1 .left)
-    (at-in .words-in .ensures ∙ gains-one _ _ _ _ (named .place) (all at-named) (λ none. c .if2 .taken (named .colour ∙ none)))
+    (put .put-gains .ensures ∙ gains-one (args .«data» .now) (args .gains .now) (at-named .gains-named .result .place) (named .place) (λ none. c .if2 .taken (named .colour ∙ none)))
 
-add-words-in : tie.Need-add-words-in
-add-words-in c = search needs
+add-put-gains : tie.Need-add-put-gains
+add-put-gains c = search needs
 
-words-in-requires-2 : tie.Need-words-in-requires-2
-words-in-requires-2 c κs = omega (arith, granted (c .before .before .before .before .before .before .before .before), c)
+put-gains-requires-2 : tie.Need-put-gains-requires-2
+put-gains-requires-2 c κs =
+    let w = granted (c .before .before .before .before .before .before .before .before) in
+    (w, omega (arith, w, c))
 
-mul-words-in : tie.Need-mul-words-in
-mul-words-in c = search needs
+mul-put-gains : tie.Need-mul-put-gains
+mul-put-gains c = search needs
 
-add-words-in-2 : tie.Need-add-words-in-2
-add-words-in-2 c = search needs
+add-put-gains-2 : tie.Need-add-put-gains-2
+add-put-gains-2 c = search needs
 
-words-in-requires-3 : tie.Need-words-in-requires-3
-words-in-requires-3 c κs = omega (arith, granted (c .before .before .before .before .before .before .before .before .before .before .before .before .before), c)
+put-gains-requires-3 : tie.Need-put-gains-requires-3
+put-gains-requires-3 c κs =
+    let w = granted (c .before .before .before .before .before .before .before .before .before .before .before .before .before) in
+    (w, omega (arith, w, c))
 
 same-length-2 : tie.Need-same-length-2
 same-length-2 c = search needs
 
 returns-3 : tie.Need-returns-3
 returns-3 c =
-    let third = c .before .before in
-    let second = third .before .before .before .before .before in
-    let at-test = second .before .before .before in
-    let one = at-test .before .before .before .before in
-    let at-named = one .before .before in
+    let blue = c .before .before in
+    let green = blue .before .before .before .before .before in
+    let at-test = green .before .before .before in
+    let red = at-test .before .before .before .before in
+    let at-named = red .before .before in
     let named = at-named .gains-named .ensures in
-    rw (at-named .before .if1 .left, third .words-in3 .ensures, second .words-in2 .ensures, one .words-in .ensures)
-    (gains-three _ _ _ _ (named .place) (all at-named) (sym (named .colour) ∙ at-test .if2 .left))
+    let args = at-named .before .before .before .before .args in
+    rw (at-named .before .if1 .left, blue .put-gains3 .ensures, green .put-gains2 .ensures, red .put-gains .ensures)
+    (gains-three (args .«data» .now) (args .gains .now) (at-named .gains-named .result .place) (named .place) (sym (named .colour) ∙ at-test .if2 .left))
 
 pub store-gains-spec : {M : Type 1} → statement M
 store-gains-spec =
@@ -72,13 +72,13 @@ store-gains-spec =
     (tie.spec
     returns
     gains-named-requires
-    words-in-requires
+    put-gains-requires
     same-length
     returns-2
-    add-words-in
-    words-in-requires-2
-    mul-words-in
-    add-words-in-2
-    words-in-requires-3
+    add-put-gains
+    put-gains-requires-2
+    mul-put-gains
+    add-put-gains-2
+    put-gains-requires-3
     same-length-2
     returns-3)

@@ -1,10 +1,12 @@
--- Each copy is one of the words that its bytes hold. For colour 0 they are stored three times, a third apart.
-use mathlib.Core.Path.{sym, _∙_}
+-- The gains of an accepted write lie within a third of the table; for colour 0 they are stored three times, a third apart.
+use mathlib.Core.Path.{sym, ap, _∙_}
 use native.Mathlib.Omega.{arith}
 use borrow.Author.Tests.{ne-eqb}
+use Rattle.wire.specs.Tables.{words, bytes}
 use Rattle.settings.specs.Reset.{gainsSize}
 use Rattle.controller.specs.Internal.{GainsWrite}
-use Rattle.controller8.proofs.Moves.{lent-words, one-stored, three-stored}
+use Rattle.controller.proofs.Grants.{gains-one}
+use Rattle.controller8.proofs.Moves.{lent-words, three-stored}
 use borrow.Author.Needs.{needs}
 use Rattle.controller8.proofs.store_gains.Statement.{statement}
 use Rattle.controller8.proofs.store_gains.Tie as tie
@@ -21,44 +23,40 @@ returns c =
 gains-named-requires : tie.Need-gains-named-requires
 gains-named-requires c κs = search needs
 
-mul-place : tie.Need-mul-place
-mul-place c = omega (arith, granted (c .before))
-
-mul-size : tie.Need-mul-size
-mul-size c = search needs
-
-copy-requires : tie.Need-copy-requires
-copy-requires c κs = omega (arith, granted (c .before .before .before))
+put-gains-requires : tie.Need-put-gains-requires
+put-gains-requires c κs = let w = granted (c .before) in (w, omega arith, omega (arith, w))
 
 same-length : tie.Need-same-length
 same-length c = search needs
 
 returns-2 : tie.Need-returns-2
 returns-2 c =
-    let at-copy = c .before .before .before .before in
-    let at-named = at-copy .before .before .before .before in
+    let put = c .before .before .before .before in
+    let at-named = put .before .before in
     let named = at-named .gains-named .ensures in
-    let known = at-named .before .before in
-    let at-start = known .before .before in
+    let args = at-named .before .before .before .before .args in
     rw (at-named .before .if1 .left)
-    (at-copy .copy .ensures
-    ∙ one-stored (at-start .args .«data» .now) (at-start .args .gains .now) (λ k. known .before .shared-slice-known .given k .fits) (granted at-named)
-    (at-start .pre .1) (λ k. known .slice-known .given k .fits) _ _ (named .place) (named .count) (λ none. c .if2 .taken (named .colour ∙ none)))
+    (put .put-gains .ensures
+    ∙ ap bytes (gains-one (args .«data» .now) (words (args .gains .now)) (at-named .gains-named .result .place) (named .place) (λ none. c .if2 .taken (named .colour ∙ none))))
 
-add-copy : tie.Need-add-copy
-add-copy c = search needs
+add-put-gains : tie.Need-add-put-gains
+add-put-gains c = search needs
 
-copy-requires-2 : tie.Need-copy-requires-2
-copy-requires-2 c κs = omega (arith, granted (c .before .before .before .before .before .before .before .before .before), c)
+put-gains-requires-2 : tie.Need-put-gains-requires-2
+put-gains-requires-2 c κs =
+    let w = granted (c .before .before .before .before .before .before .before .before) in
+    (w, omega (arith, c), omega (arith, w))
 
-mul-copy : tie.Need-mul-copy
-mul-copy c = search needs
+mul-put-gains : tie.Need-mul-put-gains
+mul-put-gains c = search needs
 
-add-copy-2 : tie.Need-add-copy-2
-add-copy-2 c = search needs
+add-put-gains-2 : tie.Need-add-put-gains-2
+add-put-gains-2 c = search needs
 
-copy-requires-3 : tie.Need-copy-requires-3
-copy-requires-3 c κs = omega (arith, granted (c .before .before .before .before .before .before .before .before .before .before .before .before .before), c)
+put-gains-requires-3 : tie.Need-put-gains-requires-3
+put-gains-requires-3 c κs =
+    let w = granted (c .before .before .before .before .before .before .before .before .before .before .before .before .before) in
+    (w, omega (arith, c), omega (arith, w))
 
 same-length-2 : tie.Need-same-length-2
 same-length-2 c = search needs
@@ -66,17 +64,15 @@ same-length-2 c = search needs
 returns-3 : tie.Need-returns-3
 returns-3 c =
     let blue = c .before .before in
-    let green = blue .before .before .before .before in
-    let at-test = green .before .before in
+    let green = blue .before .before .before .before .before in
+    let at-test = green .before .before .before in
     let red = at-test .before .before .before .before in
-    let at-named = red .before .before .before .before in
+    let at-named = red .before .before in
     let named = at-named .gains-named .ensures in
-    let known = at-named .before .before in
-    let at-start = known .before .before in
+    let args = at-named .before .before .before .before .args in
     rw (at-named .before .if1 .left)
-    (three-stored (at-start .args .«data» .now) (at-start .args .gains .now) (λ k. known .before .shared-slice-known .given k .fits) (granted at-named)
-    (at-start .pre .1) (λ k. known .slice-known .given k .fits) _ _ (named .place) (named .count) (sym (named .colour) ∙ at-test .if2 .left) _ _ _
-    (red .copy .ensures) (green .copy2 .ensures) (blue .copy3 .ensures))
+    (three-stored (args .«data» .now) (args .gains .now) (at-named .gains-named .result .place) (red .put-gains .last .1 .0) (green .put-gains2 .last .1 .0) _
+    (named .place) (sym (named .colour) ∙ at-test .if2 .left) (red .put-gains .ensures) (green .put-gains2 .ensures) (blue .put-gains3 .ensures))
 
 pub store-gains-spec : {M : Type 1} → statement M
 store-gains-spec =
@@ -84,15 +80,13 @@ store-gains-spec =
     (tie.spec
     returns
     gains-named-requires
-    mul-place
-    mul-size
-    copy-requires
+    put-gains-requires
     same-length
     returns-2
-    add-copy
-    copy-requires-2
-    mul-copy
-    add-copy-2
-    copy-requires-3
+    add-put-gains
+    put-gains-requires-2
+    mul-put-gains
+    add-put-gains-2
+    put-gains-requires-3
     same-length-2
     returns-3)

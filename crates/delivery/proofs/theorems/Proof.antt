@@ -7,7 +7,11 @@ use Rattle.controller.proofs.Live.{live-kept}
 use Rattle.upload.proofs.Announced.{batch-announced}
 use Rattle.upload.proofs.Bytes.{batch-bytes}
 use Rattle.upload.proofs.Examples.{examples}
+use Rattle.runs.proofs.Expand.{length-expand}
+use Rattle.compress.specs.Compress.{compressed}
+use Rattle.compress.proofs.Fewest.{expand-compressed}
 use Rattle.delivery.proofs.Sent.{delivered}
+use Rattle.delivery.proofs.Pairs.{gains-delivered, compressed-splittable}
 use Rattle.delivery.proofs.theorems.Statement.{statement}
 use Rattle.delivery.proofs.theorems.Tie as tie
 
@@ -17,6 +21,11 @@ returns c =
     record {
       live-kept = live-kept;
       delivered = λ n held wanted h w s reply l. delivered n held wanted h w s reply (runs s reply (right-running l));
+      runs-counted = length-expand;
+      gains-delivered = λ colour start ws f s reply l. gains-delivered colour start ws f s reply (runs s reply (right-running l));
+      compressed-delivered = λ colour start gains g c h s reply l.
+          let f = compressed-splittable colour start gains g c h in
+          (expand-compressed gains, f, gains-delivered colour start (compressed gains) f s reply (runs s reply (right-running l)));
       batch-bytes = λ n held wanted small h w. batch-bytes n small wanted w held h;
       announced-sound = λ p s h. rw h (omega (arith, s .whole, s .counted h));
       batch-walked = λ n held wanted h w. batch-announced n held wanted (h .long) (w .long);

@@ -1,7 +1,7 @@
 -- A write's tests 9 to 11 apart from its options, and what they come to where the command's size is fixed.
 use Prim.Native.Nat.{ℕ}
 use mathlib.Core.Path.{_≡_}
-use mathlib.Core.Bool.{Bool, false, cond, not, _&&_, _||_}
+use mathlib.Core.Bool.{Bool, false, cond, not, _&&_}
 use mathlib.Core.List.{List}
 use native.Mathlib.Omega.{arith}
 use lib.ListN.{length}
@@ -15,9 +15,9 @@ use Rattle.wire.proofs.Tests.{Silent}
 use Rattle.opcode.proofs.Accepts.Fields.{Right, right-size, right-value, tests-right}
 use Rattle.opcode.proofs.Accepts.Commands.{sets-span, sets-sized}
 
--- 11 of a write: merge mode, compressed gains.
+-- 11 of a write: merge mode.
 abbrev pub namedWrite : ℕ → List ℕ → Bool
-namedWrite op d = (eqb op 0x39 || eqb op 0x2B) && eqb (byteAt d 0) 1
+namedWrite op d = eqb op 0x39 && eqb (byteAt d 0) 1
 
 -- None of the three holds.
 pub record Passes (op : ℕ) (d : List ℕ) : Type 0 where

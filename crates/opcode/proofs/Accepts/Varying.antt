@@ -1,7 +1,7 @@
 -- Writes whose size varies: 34h, 38h, 2Bh and 35h, each from its tests to its data and back.
 use Prim.Native.Nat.{ℕ, _+_, _-_, _*_, _/_, _%_, _≤_}
 use mathlib.Core.Path.{_≡_, refl, sym, subst, _∙_}
-use mathlib.Core.Bool.{false, cond, not}
+use mathlib.Core.Bool.{false, cond, not, _&&_}
 use mathlib.Core.List.{List, [], _∷_, _++_}
 use native.Mathlib.Decide.{decLt, ℕ-discrete}
 use native.Mathlib.Omega.{arith}
@@ -13,12 +13,12 @@ use Rattle.wire.specs.Numbers.{byteAt, wordAt}
 use Rattle.wire.specs.Tables.{words}
 use Rattle.opcode.specs.Fields.{word, fault, wordsAt, rise}
 use Rattle.opcode.specs.Commands.{commandOf, flag}
-use Rattle.opcode.specs.Judgement.{pointsSizeWrong, smoothSizeWrong, smoothFault, gainsSizeWrong, gainsFault, controlSizeWrong, controlFault, listsFault}
+use Rattle.opcode.specs.Judgement.{pointsSizeWrong, smoothSizeWrong, smoothFault, inPairs, gainsSizeWrong, wordsFault, gainsFault, controlSizeWrong, controlFault, listsFault}
 use Rattle.opcode.specs.Allowed.{WriteData, points, smooth, shape, lists, Rising}
-use Rattle.runs.specs.Gains.{firstLarge}
+use Rattle.runs.specs.Pairs.{Pairs}
 use Rattle.wire.proofs.Tests.{told}
 use Rattle.wire.proofs.Tables.{length-pairs}
-use Rattle.runs.proofs.Right.{small-gains, gains-small}
+use Rattle.runs.proofs.Right.{small-gains, gains-small, fault-pairs, pairs-fault, pairs-even}
 use Rattle.opcode.proofs.Accepts.Fields.{All, Right, right-value, tests-right, all-fault, fault-all, fault-here}
 use Rattle.opcode.proofs.Accepts.Lists.{headed, exactly, words-part, words-rest, length-wordsAt, rising-rise, rise-rising}
 use Rattle.opcode.proofs.Accepts.Passes.{Passes}
@@ -78,35 +78,68 @@ smooth-passes d a e =
 words-long : (d : List ℕ) → length d ≡ 6 + 2 * wordAt d 2 → length (words (drop 6 d)) ≡ wordAt d 2
 words-long d e = rw (length-pairs, length-drop) (omega arith)
 
-pub passes-gains : (d : List ℕ) → Passes 0x2B d → WriteData 0x2B d
+-- What the tests tell before the flag does.
+record Tested (d : List ℕ) : Type 0 where
+  long : 6 ≤ length d
+  whole : length d ≡ 6 + 2 * wordAt d 2
+  values : All (commandOf 0x2B .sets) d 0
+  words-right : length (words (drop 6 d)) ≤ wordsFault d
+
+gains-tested : (d : List ℕ) → Passes 0x2B d → Tested d
 unfolding commandOf gainsSizeWrong gainsFault
-passes-gains d p =
+gains-tested d p =
     let head = fault (commandOf 0x2B .sets) d 0 in
-    let count = wordAt d 2 in
-    let gains = words (drop 6 d) in
     let size : gainsSizeWrong d ≡ false = p .size in
     let long : 6 ≤ length d = search told in
-    let whole : length d ≡ 6 + 2 * count = search told in
+    let whole : length d ≡ 6 + 2 * wordAt d 2 = search told in
     let behind : 6 ≤ head = past-head head 6 _ (length d) long (p .value) in
-    let values : All (commandOf 0x2B .sets) d 0 = fault-all (commandOf 0x2B .sets) (omega arith) d 0 behind in
-    let plain : byteAt d 0 ≡ 0 = omega (arith, eqb-false (byteAt d 0) 1 (p .namedOnly)) in
-    let words-size = ltb-false (6 + 2 * firstLarge gains) (length d) (rw (le-ltb head 6 behind, p .namedOnly) at (p .value)) in
-    let small : (k : ℕ) → getD gains k 0 ≤ 8191 = gains-small gains (omega (arith, words-long d whole)) in
-    let rest : length (drop 6 d) ≡ 2 * count = rw length-drop (omega arith) in
-    rw (headed d 6 long, plain) (search (WriteData.gains, arith))
-
-pub gains-passes : (d : List ℕ) → All (commandOf 0x2B .sets) d 0 → byteAt d 0 ≡ 0 → length d ≡ 6 + 2 * wordAt d 2
-    → ((k : ℕ) → getD (words (drop 6 d)) k 0 ≤ 8191) → Passes 0x2B d
-unfolding commandOf gainsSizeWrong gainsFault
-gains-passes d a z e h =
-    let gains = words (drop 6 d) in
-    let behind : fault (commandOf 0x2B .sets) d 0 ≡ 6 = all-fault (commandOf 0x2B .sets) d 0 a in
-    let small : firstLarge gains ≡ length gains = small-gains gains h in
+    let no-fault = ltb-false (6 + 2 * wordsFault d) (length d) (rw (le-ltb head 6 behind) at (p .value)) in
     record {
-      size = rw (le-leb 6 (length d) (omega arith), eq-eqb (length d) (6 + 2 * wordAt d 2) e);
-      value = rw (behind, z) (le-ltb (6 + 2 * firstLarge gains) (length d) (omega (arith, words-long d e)));
-      namedOnly = rw z;
+      long = long;
+      whole = whole;
+      values = fault-all (commandOf 0x2B .sets) (omega arith) d 0 behind;
+      words-right = omega (arith, words-long d whole);
     }
+
+pub passes-gains : (d : List ℕ) → Passes 0x2B d → WriteData 0x2B d
+unfolding commandOf wordsFault
+passes-gains d p =
+    let t = gains-tested d p in
+    let ws = words (drop 6 d) in
+    let values = t .values in
+    let rest : length (drop 6 d) ≡ 2 * wordAt d 2 = rw length-drop (omega (arith, t .whole)) in
+    elim (ℕ-discrete (byteAt d 0) 1) [
+      | yes one ↦
+          let sent : Pairs ws = fault-pairs ws (rw one at (t .words-right)) in
+          rw (headed d 6 (t .long), one) (search (WriteData.runs, arith))
+      | no one ↦
+          let plain : byteAt d 0 ≡ 0 = omega arith in
+          let small : (k : ℕ) → getD ws k 0 ≤ 8191 = gains-small ws (rw plain at (t .words-right)) in
+          rw (headed d 6 (t .long), plain) (search (WriteData.gains, arith))
+    ]
+
+-- Of data of the right size, with its fields in range and no word at fault; pairs, of an even count.
+module _ (d : List ℕ) (a : All (commandOf 0x2B .sets) d 0) (e : length d ≡ 6 + 2 * wordAt d 2) where
+  sized : inPairs d && eqb (wordAt d 2 % 2) 1 ≡ false → gainsSizeWrong d ≡ false
+  unfolding gainsSizeWrong
+  sized h = rw (le-leb 6 (length d) (omega arith), eq-eqb (length d) (6 + 2 * wordAt d 2) e, h)
+
+  valued : wordsFault d ≡ length (words (drop 6 d)) → ltb (gainsFault d) (length d) ≡ false
+  unfolding commandOf gainsFault
+  valued h =
+      let behind : fault (commandOf 0x2B .sets) d 0 ≡ 6 = all-fault (commandOf 0x2B .sets) d 0 a in
+      rw behind (le-ltb (6 + 2 * wordsFault d) (length d) (omega (arith, words-long d e)))
+
+  pub gains-passes : byteAt d 0 ≡ 0 → ((k : ℕ) → getD (words (drop 6 d)) k 0 ≤ 8191) → Passes 0x2B d
+  unfolding commandOf wordsFault
+  gains-passes z h =
+      record { size = sized (rw z); value = valued (rw z (small-gains (words (drop 6 d)) h)); namedOnly = refl }
+
+  pub runs-passes : byteAt d 0 ≡ 1 → Pairs (words (drop 6 d)) → Passes 0x2B d
+  unfolding commandOf wordsFault
+  runs-passes z h =
+      let even : wordAt d 2 % 2 ≡ 0 = omega (arith, words-long d e, pairs-even h) in
+      record { size = sized (rw (z, even)); value = valued (rw z (pairs-fault h)); namedOnly = refl }
 
 -- 35h, mode 0.
 right-shape : (d : List ℕ) → byteAt d 0 ≡ 0 → Right 5 (commandOf 0x35 .sets) d → WriteData 0x35 d

@@ -17,7 +17,7 @@ use Rattle.opcode.proofs.Accepts.Fields.{All, shown}
 use Rattle.opcode.proofs.Accepts.Lists.{bytesAt, exactly}
 use Rattle.opcode.proofs.Accepts.Commands.{_&_, of-carried}
 use Rattle.opcode.proofs.Accepts.Passes.{namedWrite, Passes, passes-silent, silent-passes, RightWrite, right-passes, passes-right}
-use Rattle.opcode.proofs.Accepts.Varying.{passes-points, points-passes, passes-smooth, smooth-passes, passes-gains, gains-passes, passes-control, shape-passes, joined-lists, lists-passes}
+use Rattle.opcode.proofs.Accepts.Varying.{passes-points, points-passes, passes-smooth, smooth-passes, passes-gains, gains-passes, runs-passes, passes-control, shape-passes, joined-lists, lists-passes}
 
 -- ---- From the tests to the data.
 
@@ -113,7 +113,9 @@ data-good b (WriteData.lists xs ys ex ey rx ry) =
 data-good b (WriteData.apply h) = right-good refl (omega arith) refl
 data-good b (WriteData.smooth h i j k e) = varying-good refl NeedsLength.write-38 (smooth-passes _ (omega arith) (omega arith))
 data-good b (WriteData.gains h i e s) =
-    varying-good refl NeedsLength.write-2B (gains-passes _ (omega (arith, b 2, b 3, b 4, b 5)) refl (omega arith) s)
+    varying-good refl NeedsLength.write-2B (gains-passes _ (omega (arith, b 2, b 3, b 4, b 5)) (omega arith) refl s)
+data-good b (WriteData.runs h i e s) =
+    varying-good refl NeedsLength.write-2B (runs-passes _ (omega (arith, b 2, b 3, b 4, b 5)) (omega arith) refl s)
 
 -- ---- The length field.
 

@@ -12,4 +12,5 @@ gains-size-wrong-spec =
     (λ c κs. tt)
     (λ c. omega arith)
     (λ c. omega arith)
-    (λ c. rw (c .word .ensures .0)))
+    (λ c κs. tt)
+    (λ c. rw (← c .before .word .ensures .0, ← c .in-pairs .ensures)))

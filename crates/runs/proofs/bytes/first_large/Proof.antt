@@ -4,9 +4,8 @@ use mathlib.Core.Path.{_≡_, _∙_}
 use native.Mathlib.Omega.{arith}
 use lib.ListN.{length, drop}
 use Rattle.wire.specs.Tables.{words}
-use Rattle.wire.proofs.Tables.{number-at}
 use Rattle.runs.specs.Gains.{firstLarge}
-use Rattle.runs.proofs.Walk.{large-turn, large-stop, large-done, words-count, words-few}
+use Rattle.runs.proofs.Walk.{large-turn, large-stop, large-done, word-in, words-few}
 use Rattle.runs.proofs.bytes.first_large.Statement.{statement}
 use Rattle.runs.proofs.bytes.first_large.Tie as tie
 
@@ -28,24 +27,32 @@ add-loop c = omega arith
 add-loop-2 : tie.Need-add-loop-2 Inv-loop μ-loop
 add-loop-2 c = omega arith
 
-mul-word : tie.Need-mul-word Inv-loop μ-loop
-mul-word c = omega arith
+mul-j : tie.Need-mul-j Inv-loop μ-loop
+mul-j c = omega arith
 
-add-word : tie.Need-add-word Inv-loop μ-loop
-add-word c = omega arith
+add-j : tie.Need-add-j Inv-loop μ-loop
+add-j c = omega arith
 
-word-requires : tie.Need-word-requires Inv-loop μ-loop
-word-requires c κs = tt
+shared-slice-read-number : tie.Need-shared-slice-read-number Inv-loop μ-loop
+shared-slice-read-number c = omega arith
+
+add-number : tie.Need-add-number Inv-loop μ-loop
+add-number c = omega arith
+
+shared-slice-read-number-2 : tie.Need-shared-slice-read-number-2 Inv-loop μ-loop
+shared-slice-read-number-2 c = omega arith
+
+number-requires : tie.Need-number-requires Inv-loop μ-loop
+number-requires c κs = tt
 
 returns : tie.Need-returns Inv-loop μ-loop
 returns c =
-    let at-loop = c .before .before .before in
+    let at-loop = c .before .before .before .before .before in
     let args = at-loop .before .before .args in
     let i = at-loop .loop .i in
-    let ws = words (drop (args .at) (args .s .now)) in
-    let one = words-count (args .s .now) (args .at) (i + 1) (omega arith) in
-    let gain = c .before .word .ensures .0 ∙ number-at (args .s .now) (args .at) i (omega arith) in
-    omega (arith, large-stop ws i (omega arith) (omega arith))
+    let here = word-in (args .s .now) (args .at) i (omega arith) in
+    let gain = c .before .number .ensures ∙ here .1 in
+    omega (arith, large-stop (words (drop (args .at) (args .s .now))) i (here .0) (omega arith))
 
 add-i : tie.Need-add-i Inv-loop μ-loop
 add-i c = omega arith
@@ -55,13 +62,12 @@ loop-less c = omega arith
 
 loop-again : tie.Need-loop-again Inv-loop μ-loop
 loop-again c =
-    let at-loop = c .before .before .before in
+    let at-loop = c .before .before .before .before .before in
     let args = at-loop .before .before .args in
     let i = at-loop .loop .i in
-    let ws = words (drop (args .at) (args .s .now)) in
-    let one = words-count (args .s .now) (args .at) (i + 1) (omega arith) in
-    let gain = c .before .word .ensures .0 ∙ number-at (args .s .now) (args .at) i (omega arith) in
-    omega (arith, large-turn ws i (omega arith) (omega arith))
+    let here = word-in (args .s .now) (args .at) i (omega arith) in
+    let gain = c .before .number .ensures ∙ here .1 in
+    omega (arith, large-turn (words (drop (args .at) (args .s .now))) i (here .0) (omega arith))
 
 returns-2 : tie.Need-returns-2 Inv-loop μ-loop
 returns-2 c =
@@ -79,9 +85,12 @@ first-large-spec =
     mul-loop
     add-loop
     add-loop-2
-    mul-word
-    add-word
-    word-requires
+    mul-j
+    add-j
+    shared-slice-read-number
+    add-number
+    shared-slice-read-number-2
+    number-requires
     returns
     add-i
     loop-less

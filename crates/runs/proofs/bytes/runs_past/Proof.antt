@@ -1,9 +1,10 @@
 -- The loop keeps the sum: what is added and what is left are all runs.
 use Prim.Native.Nat.{_+_, _*_, _-_, _≤_, _<_}
-use mathlib.Core.Path.{_≡_, sym, _∙_}
+use mathlib.Core.Path.{_≡_, sym, ap, _∙_}
 use native.Mathlib.Omega.{arith}
 use borrow.Author.Tests.{lt-ltb}
 use lib.ListN.{length, drop}
+use lib.Dec.{ltb}
 use Rattle.wire.specs.Tables.{words}
 use Rattle.wire.proofs.Tables.{number-at}
 use Rattle.runs.specs.Pairs.{colourGains, sumRuns}
@@ -35,14 +36,26 @@ returns c =
     let past : colourGains < args .start + sumRuns (words (drop (args .at) (args .s .now))) = omega arith in
     sym (lt-ltb _ _ past)
 
-mul-word : tie.Need-mul-word Inv-loop μ-loop
-mul-word c = omega arith
+mul-j : tie.Need-mul-j Inv-loop μ-loop
+mul-j c = omega arith
 
-add-word : tie.Need-add-word Inv-loop μ-loop
-add-word c = omega arith
+add-j : tie.Need-add-j Inv-loop μ-loop
+add-j c = omega arith
 
-word-requires : tie.Need-word-requires Inv-loop μ-loop
-word-requires c κs = tt
+shared-slice-read-number : tie.Need-shared-slice-read-number Inv-loop μ-loop
+shared-slice-read-number c = omega arith
+
+add-number : tie.Need-add-number Inv-loop μ-loop
+add-number c = omega arith
+
+shared-slice-read-number-2 : tie.Need-shared-slice-read-number-2 Inv-loop μ-loop
+shared-slice-read-number-2 c = omega arith
+
+number-requires : tie.Need-number-requires Inv-loop μ-loop
+number-requires c κs = tt
+
+cast-end : tie.Need-cast-end Inv-loop μ-loop
+cast-end c = omega arith
 
 add-end : tie.Need-add-end Inv-loop μ-loop
 add-end c = omega arith
@@ -55,11 +68,11 @@ loop-less c = omega arith
 
 loop-again : tie.Need-loop-again Inv-loop μ-loop
 loop-again c =
-    let at-loop = c .before .before .before in
+    let at-loop = c .before .before .before .before .before in
     let args = at-loop .before .before .args in
     let i = at-loop .loop .i in
     let two = words-count (args .s .now) (args .at) (i + 2) (omega arith) in
-    let run = c .word .ensures .0 ∙ number-at (args .s .now) (args .at) i (omega arith) in
+    let run = c .number .ensures ∙ number-at (args .s .now) (args .at) i (omega arith) in
     omega (arith, sum-turn (words (drop (args .at) (args .s .now))) i (omega arith))
 
 returns-2 : tie.Need-returns-2 Inv-loop μ-loop
@@ -69,7 +82,7 @@ returns-2 c =
     let few = words-few (args .s .now) (args .at) (i + 1) (omega arith) in
     let none-left = sum-done (words (drop (args .at) (args .s .now))) i few in
     let same : c .before .loop .end ≡ args .start + sumRuns (words (drop (args .at) (args .s .now))) = omega arith in
-    rw same
+    ap (ltb colourGains) same
 
 pub runs-past-spec : {M : Type 1} → statement M
 runs-past-spec =
@@ -82,9 +95,13 @@ runs-past-spec =
     add-loop
     add-loop-2
     returns
-    mul-word
-    add-word
-    word-requires
+    mul-j
+    add-j
+    shared-slice-read-number
+    add-number
+    shared-slice-read-number-2
+    number-requires
+    cast-end
     add-end
     add-i
     loop-less

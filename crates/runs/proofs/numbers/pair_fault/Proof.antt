@@ -26,9 +26,6 @@ mul-run c = omega arith
 shared-slice-read-run : tie.Need-shared-slice-read-run Inv-loop μ-loop
 shared-slice-read-run c = omega arith
 
-cast-run : tie.Need-cast-run Inv-loop μ-loop
-cast-run c = omega (arith, c .shared-slice-known2 .given (c .before .before .loop .i) .fits)
-
 run-wrong-requires : tie.Need-run-wrong-requires Inv-loop μ-loop
 run-wrong-requires c κs = tt
 
@@ -47,9 +44,6 @@ mul-if2 c = omega arith
 shared-slice-read-if2 : tie.Need-shared-slice-read-if2 Inv-loop μ-loop
 shared-slice-read-if2 c = omega arith
 
-cast-if2 : tie.Need-cast-if2 Inv-loop μ-loop
-cast-if2 c = omega (arith, c .shared-slice-known3 .given (c .before .before .before .before .before .loop .i + 1) .fits)
-
 add-result : tie.Need-add-result Inv-loop μ-loop
 add-result c = omega arith
 
@@ -58,8 +52,8 @@ returns-2 c =
     let right = c .before .before in
     let at-loop = right .before .before .before .before in
     let pairs = at-loop .before .before .args .pairs .now in
-    let run-wrong = sym (right .before .run-wrong .ensures) ∙ right .if1 .left in
-    omega (arith, fault-gain pairs (at-loop .loop .i) (omega arith) refl refl run-wrong (c .if2 .taken))
+    let run-right = sym (right .before .run-wrong .ensures) ∙ right .if1 .left in
+    omega (arith, fault-gain pairs (at-loop .loop .i) (omega arith) refl refl run-right (c .if2 .taken))
 
 add-i : tie.Need-add-i Inv-loop μ-loop
 add-i c = omega arith
@@ -72,8 +66,8 @@ loop-again c =
     let right = c .before .before in
     let at-loop = right .before .before .before .before in
     let pairs = at-loop .before .before .args .pairs .now in
-    let run-wrong = sym (right .before .run-wrong .ensures) ∙ right .if1 .left in
-    omega (arith, fault-turn pairs (at-loop .loop .i) (omega arith) refl refl run-wrong (c .if2 .left))
+    let run-right = sym (right .before .run-wrong .ensures) ∙ right .if1 .left in
+    omega (arith, fault-turn pairs (at-loop .loop .i) (omega arith) refl refl run-right (c .if2 .left))
 
 returns-3 : tie.Need-returns-3 Inv-loop μ-loop
 returns-3 c =
@@ -89,13 +83,11 @@ pair-fault-spec =
     add-loop
     mul-run
     shared-slice-read-run
-    cast-run
     run-wrong-requires
     returns
     add-if2
     mul-if2
     shared-slice-read-if2
-    cast-if2
     add-result
     returns-2
     add-i

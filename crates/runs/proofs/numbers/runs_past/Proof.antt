@@ -1,9 +1,10 @@
 -- The loop keeps the sum: what is added and what is left are all runs.
 use Prim.Native.Nat.{_+_, _-_, _≤_, _<_}
-use mathlib.Core.Path.{_≡_, sym}
+use mathlib.Core.Path.{_≡_, sym, ap}
 use native.Mathlib.Omega.{arith}
 use borrow.Author.Tests.{lt-ltb}
 use lib.ListN.{length, drop}
+use lib.Dec.{ltb}
 use Rattle.runs.specs.Pairs.{colourGains, sumRuns}
 use Rattle.runs.proofs.Walk.{sum-turn, sum-done}
 use Rattle.runs.proofs.numbers.runs_past.Statement.{statement}
@@ -54,7 +55,7 @@ returns-2 c =
     let args = c .before .before .args in
     let none-left = sum-done (args .pairs .now) (c .before .loop .i) (omega arith) in
     let same : c .before .loop .end ≡ args .start + sumRuns (args .pairs .now) = omega arith in
-    rw same
+    ap (ltb colourGains) same
 
 pub runs-past-spec : {M : Type 1} → statement M
 runs-past-spec =

@@ -1,0 +1,4 @@
+-- Gains turned into the fewest pairs of a run and a gain.
+pub mod Compress
+pub mod Compressing
+pub mod Internal

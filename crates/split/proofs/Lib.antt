@@ -1,0 +1,4 @@
+pub mod Cutting
+pub mod Outcome
+pub mod Sums
+pub mod Writing

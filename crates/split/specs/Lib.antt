@@ -1,0 +1,4 @@
+-- Pairs of a run and a gain cut into 2Bh packets.
+pub mod Split
+pub mod Splitting
+pub mod Internal
