@@ -91,6 +91,15 @@ static void print_hex(char direction, const uint8_t *bytes, size_t length)
     printf("\n");
 }
 
+/* Prints why a packet was refused; if one of its values is out of range, with its place in the data. */
+static void print_refusal(const char *what, unsigned status, size_t fault_place)
+{
+    char line[VERMOLGAS_LINE_BYTES];
+
+    if (vermolgas_refusal_line(line, sizeof line, status, fault_place) < sizeof line)
+        printf("  %s %u: %s\n\n", what, status, line);
+}
+
 /* Sends a packet, and prints it and its reply. Nothing else changes the device after reset, so that a recording tells
  * all of it. */
 static void exchange(const uint8_t *packet, size_t length)
@@ -106,7 +115,7 @@ static void exchange(const uint8_t *packet, size_t length)
     }
     print_hex('<', reply.bytes, result.reply_length);
     if (result.status != VERMOLGAS_ACCEPTED) {
-        printf("  refused with %u: %s\n\n", result.status, vermolgas_refusal_text(result.status));
+        print_refusal("refused with", result.status, result.fault_place);
         return;
     }
     printf("  accepted%s", result.data_length == 0 ? "" : ", data");
@@ -120,7 +129,7 @@ static void command(const char *words, struct vermolgas_command made)
 {
     printf("%s\n", words);
     if (made.status != VERMOLGAS_ACCEPTED)
-        printf("  not made, %u: %s\n\n", made.status, vermolgas_refusal_text(made.status));
+        print_refusal("not made,", made.status, made.fault_place);
     else
         exchange(made.bytes, made.length);
 }
@@ -247,6 +256,10 @@ static int run_session(void)
     command("2Bh: read red gains 99 to 102 back", vermolgas_make_read_gains(VERMOLGAS_GAIN_RED, 99, 4, READ));
 
     command("11h: there is no display 5", vermolgas_make_display((enum vermolgas_display)5, WRITE));
+    printf("6Dh: a packet from elsewhere, with a parity of 3\n");
+    exchange(DATA(0x54, 0x6D, U16(11), 1, 1, VERMOLGAS_UART_BAUD_115200, VERMOLGAS_UART_BITS_8, VERMOLGAS_UART_STOP_1,
+                  3, VERMOLGAS_UART_FLOW_OFF, VERMOLGAS_UART_TRIGGER_HALF, VERMOLGAS_UART_TRIGGER_HALF,
+                  VERMOLGAS_UART_POLARITY_NORMAL, VERMOLGAS_UART_SOURCE_RXD));
     command("34h: the map has no point 6", vermolgas_make_points(6, POINTS(POINT(0, 0)), WRITE));
     printf("11h: a packet with a bit flipped on the way\n");
     exchange(DATA(0x74, 0x11, 0x01, 0x00, 0x03, 0x8C));

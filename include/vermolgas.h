@@ -11,10 +11,12 @@
  * No entry keeps anything between calls: all state is in the buffers lent to it.
  *
  * Every answer is one number. Its low byte is 0 if the call was accepted, else the number of the refusal: take it out
- * with VERMOLGAS_STATUS, for the other bits of a refusal are reserved. After a refusal every buffer is unchanged;
- * vermolgas_packet alone still writes its reply, and answers its length. The macros below take an answer apart; each
- * uses its argument once. Keep an answer in a uint64_t: compilers warn where one is ignored, the macros do not compile
- * on fewer bits, and -Wconversion warns where bits are lost.
+ * with VERMOLGAS_STATUS, for a refusal may have other bits, too. Where a packet is refused with 10, by
+ * vermolgas_packet, vermolgas_read or vermolgas_make, VERMOLGAS_FAULT_PLACE says which byte of its data is at fault;
+ * what is not named is reserved. After a refusal every buffer is unchanged; vermolgas_packet alone still writes its
+ * reply, and answers its length. The macros below take an answer apart; each uses its argument once. Keep an answer in
+ * a uint64_t: compilers warn where one is ignored, the macros do not compile on fewer bits, and -Wconversion warns
+ * where bits are lost.
  *
  * vermolgas_device.h lends all of it in one argument, and answers in structs. docs/INTERFACE.md has the commands and
  * what each may carry, docs/LAYOUT.md the settings block, docs/RULES.md the rules.
@@ -27,7 +29,7 @@
 
 /* The version, and as one number to compare with: 1.2.3 is 10203. */
 #define VERMOLGAS_VERSION_MAJOR 0
-#define VERMOLGAS_VERSION_MINOR 4
+#define VERMOLGAS_VERSION_MINOR 5
 #define VERMOLGAS_VERSION_PATCH 0
 #define VERMOLGAS_VERSION                                                                                             \
     (10000 * VERMOLGAS_VERSION_MAJOR + 100 * VERMOLGAS_VERSION_MINOR + VERMOLGAS_VERSION_PATCH)
@@ -67,7 +69,7 @@ VERMOLGAS_ENUM(vermolgas_refusal) {
     VERMOLGAS_REFUSED_OPCODE = 7,         /* the opcode is not carried */
     VERMOLGAS_REFUSED_LENGTH_MISSING = 8, /* 2Bh, 34h, 35h or 38h is written without a length field */
     VERMOLGAS_REFUSED_SIZE = 9,           /* wrong size of the data, or a gain count not that of its words, or odd with pairs */
-    VERMOLGAS_REFUSED_RANGE = 10,         /* some value out of its range, or reserved */
+    VERMOLGAS_REFUSED_RANGE = 10,         /* some value out of its range, or reserved: see VERMOLGAS_FAULT_PLACE */
     VERMOLGAS_REFUSED_NOT_CARRIED = 11,   /* merge mode */
     VERMOLGAS_REFUSED_PAST_TABLE = 12     /* start + count, or start + runs, past the end of their table */
 };
@@ -263,6 +265,17 @@ VERMOLGAS_ENUM(vermolgas_uart_source) { VERMOLGAS_UART_SOURCE_RXD = 0, VERMOLGAS
 /* Any answer: 0 or the refusal. */
 #define VERMOLGAS_STATUS(answer) VERMOLGAS_FIELD(unsigned, answer, 0, 0xFFu)
 
+/* Which byte is at fault, for an answer of vermolgas_packet, vermolgas_read or vermolgas_make whose status is 10: where
+ * in the packet's data the first field begins whose value is out of range. Data begins behind the header, the opcode
+ * and the length field, if there is one; these do not count. In 6Dh the port is byte 0 and the parity byte 5, in 65h
+ * the frequency byte 1, whichever of its four is wrong. In the two lists of 35h an entry is at fault if it is no
+ * greater than its predecessor: entry k of all 94 is at byte 1 + 2 x k. In 2Bh word k is at byte 6 + 2 x k, and of a
+ * pair the run comes first.
+ *
+ * On any other refusal of these three it is 0. It says nothing of what was accepted: there vermolgas_read has the
+ * length of the data in these bits. Refusals by 10 of the other entries are about no packet, and have no place. */
+#define VERMOLGAS_FAULT_PLACE(answer) VERMOLGAS_FIELD(size_t, answer, 32, 0xFFFFu)
+
 /* Puts a controller into its state after reset: zeros everywhere, but each gain 4096 (1.0), the warp map's shape
  * 62 x 32 and mode 0 on both sides, staged and live, control point lists counting from 0, the smooth table's shape
  * 3 x 3, and PWM frequencies 20. Every byte of the four buffers is written, whatever it was.
@@ -284,10 +297,11 @@ uint64_t vermolgas_reset(uint8_t *block, size_t block_length, uint8_t *staged, s
  * byte of the block and of the tables. Block bytes without a meaning, 865 to 1023, stay as they are.
  *
  * There is a reply, at the start of the reply buffer, exactly if the packet is not empty, bit 6 or bit 7 of its first
- * byte is set, and the refusal is not 1. It is the status, the length of the data in two bytes, the data of an
- * accepted read, and a checksum if bit 5 of the packet is set; vermolgas_read_reply reads it back. The buffer past the
+ * byte is set, and the refusal is not 1. It is the status, the length of the data in two bytes, the data, and a
+ * checksum if bit 5 of the packet is set; vermolgas_read_reply reads it back. Data is what an accepted read returns,
+ * or, with status 10, the place of the fault in two bytes, low byte first; no other reply has any. The buffer past the
  * reply is unchanged, and all of it if no reply is written. The answer has the reply's length, 0 for none, on a refusal
- * too.
+ * too, and on refusal 10 the place (VERMOLGAS_FAULT_PLACE), whether or not there is a reply.
  */
 VERMOLGAS_NODISCARD
 uint64_t vermolgas_packet(const uint8_t *packet, size_t packet_length, uint8_t *block, size_t block_length,
@@ -298,7 +312,8 @@ uint64_t vermolgas_packet(const uint8_t *packet, size_t packet_length, uint8_t *
 
 /* Reads one packet, the whole slice given, apart from any settings. Refusals 2 to 11.
  *
- * The answer has the opcode, the header bits 3 to 7 in place, and the offset and length of the data in the packet.
+ * The answer has the opcode, the header bits 3 to 7 in place, and the offset and length of the data in the packet. On
+ * refusal 10 it has the place of the fault (VERMOLGAS_FAULT_PLACE), in the bits that are the length of an accepted one.
  */
 VERMOLGAS_NODISCARD
 uint64_t vermolgas_read(const uint8_t *packet, size_t packet_length);
@@ -312,8 +327,8 @@ uint64_t vermolgas_read(const uint8_t *packet, size_t packet_length);
  *
  * Options are header bits 3 to 7 in place; bits 0 to 2 are not looked at, as the destination is always 4. The length
  * field and the checksum are written if the options ask for them. Refusal 1 for a buffer under 512 bytes, else what
- * reading would give: 3, 7 (any opcode over 255 too), 8, 9, 10 or 11. The answer has the packet's length, 0 on a
- * refusal. What is made, vermolgas_read reads back as it was given.
+ * reading would give: 3, 7 (any opcode over 255 too), 8, 9, 10 with its place (VERMOLGAS_FAULT_PLACE) or 11. The answer
+ * has the packet's length, 0 on a refusal. What is made, vermolgas_read reads back as it was given.
  */
 VERMOLGAS_NODISCARD
 uint64_t vermolgas_make(uint16_t opcode, uint8_t options, const uint8_t *data, size_t data_length, uint8_t *buffer,
@@ -325,7 +340,8 @@ uint64_t vermolgas_make(uint16_t opcode, uint8_t options, const uint8_t *data, s
  * header asked for. Refusals 2, 3, 4, 5 and 10 (a status over 12), in this order.
  *
  * The answer has the reply's own status, 0 or a refusal of the front end, and the length of the data, which starts at
- * offset VERMOLGAS_REPLY_OFFSET of the reply.
+ * offset VERMOLGAS_REPLY_OFFSET of the reply. Two bytes of data with status 10 are the place of the packet's fault: it
+ * stands there, and not in the answer. A controller from before version 0.5 sends none.
  */
 VERMOLGAS_NODISCARD
 uint64_t vermolgas_read_reply(const uint8_t *reply, size_t reply_length, uint8_t checksum_expected);

@@ -9,6 +9,10 @@
  * is written but for the reply of vermolgas_device_send. What the caller sees to is what vermolgas.h says: a pointer is
  * to as many bytes as the length behind it says, and what is written overlaps nothing else that is lent.
  *
+ * A packet that is refused with 10 has a value out of range, and the structs say in fault_place where: by the offset of
+ * the field in the packet's data, as VERMOLGAS_FAULT_PLACE has it. With any other status fault_place is 0.
+ * vermolgas_refusal_line puts it into words. What answers a status alone, as planning does, has no place.
+ *
  * Names that end in an underscore are the layer's own.
  */
 #ifndef VERMOLGAS_DEVICE_H
@@ -44,6 +48,50 @@ VERMOLGAS_INLINE_ const char *vermolgas_refusal_text(unsigned number)
     }
 }
 
+/* A fault_place beside status 10 that is not known: no packet has one as large. */
+#define VERMOLGAS_NO_PLACE VERMOLGAS_CAST(size_t, -1)
+
+/* Room for every line of the next function, its closing 0 included. */
+#define VERMOLGAS_LINE_BYTES 64
+
+/* A text behind the first length bytes of a line that has room for so many; what does not fit is left out, the closing
+ * 0 never. Answers the length as if all fitted. */
+VERMOLGAS_INLINE_ size_t vermolgas_append_(char *line, size_t room, size_t length, const char *text)
+{
+    for (; *text != '\0'; text++, length++)
+        if (length + 1 < room)
+            line[length] = *text;
+    if (room > 0)
+        line[length < room ? length : room - 1] = '\0';
+    return length;
+}
+
+/* Writes the words for a packet's status into a line, with the place on refusal 10: "a value is out of range, at data
+ * byte 5". number and fault_place are those of a struct below, or of an answer. With any number but 10, and with 10 and
+ * VERMOLGAS_NO_PLACE, the words are those of vermolgas_refusal_text; that is for planning and packing, too, whose
+ * refusals by 10 have no place.
+ *
+ * As with snprintf, at most room bytes are written, the last of them a 0; with room 0, or if line is NULL, none. The
+ * answer is the length of the whole line without the 0: if that is room or more, the line was cut off. */
+VERMOLGAS_INLINE_ size_t vermolgas_refusal_line(char *line, size_t room, unsigned number, size_t fault_place)
+{
+    char digits[3 * sizeof fault_place + 1], *digit = digits + sizeof digits - 1;
+    size_t length;
+
+    if (line == NULL)
+        room = 0;
+    length = vermolgas_append_(line, room, 0, vermolgas_refusal_text(number));
+    if (number != VERMOLGAS_REFUSED_RANGE || fault_place == VERMOLGAS_NO_PLACE)
+        return length;
+    *digit = '\0';
+    do {
+        *--digit = VERMOLGAS_CAST(char, '0' + fault_place % 10);
+        fault_place /= 10;
+    } while (fault_place > 0);
+    length = vermolgas_append_(line, room, length, ", at data byte ");
+    return vermolgas_append_(line, room, length, digit);
+}
+
 /* A device: all that is kept for one controller. vermolgas_device_reset has to come first. */
 struct vermolgas_device {
     uint8_t block[VERMOLGAS_BLOCK_BYTES];
@@ -63,16 +111,29 @@ struct vermolgas_result {
     size_t reply_length;   /* of the whole reply, 0 if there is none */
     const uint8_t *data;   /* what an accepted read returned, in the reply; NULL if there is nothing */
     size_t data_length;
-    /* The place of a fault, on refusal 10, will be a field here: data is for accepted reads alone. */
+    size_t fault_place;    /* on refusal 10 the place of the value in the packet's data; else 0 */
 };
 
 /* What stands in the bytes of a reply that came over a line. */
 struct vermolgas_reply_result {
     unsigned line_status;   /* 0, or why these bytes are no reply: 1 to 5, 10 */
     unsigned device_status; /* the reply's own: 0, or the refusal of the packet; that of the line, if it is no reply */
-    const uint8_t *data;    /* as above */
+    const uint8_t *data;    /* as above: of an accepted read alone */
     size_t data_length;
+    size_t fault_place;     /* if device_status is 10, what the reply says, else 0; see vermolgas_reply_read */
 };
+
+/* A number of two bytes, low byte first. */
+VERMOLGAS_INLINE_ size_t vermolgas_word_(const uint8_t *bytes)
+{
+    return VERMOLGAS_CAST(size_t, bytes[0] | bytes[1] << 8);
+}
+
+/* The place that the answer of vermolgas_packet, vermolgas_read or vermolgas_make has on refusal 10; else 0. */
+VERMOLGAS_INLINE_ size_t vermolgas_place_in_(uint64_t answer)
+{
+    return VERMOLGAS_STATUS(answer) == VERMOLGAS_REFUSED_RANGE ? VERMOLGAS_FAULT_PLACE(answer) : 0;
+}
 
 /* Puts the device into its state after reset. Status 0; 1 for NULL. */
 VERMOLGAS_INLINE_ unsigned vermolgas_device_reset(struct vermolgas_device *device)
@@ -84,11 +145,17 @@ VERMOLGAS_INLINE_ unsigned vermolgas_device_reset(struct vermolgas_device *devic
 }
 
 /* Reads a reply of so many bytes. checksum is what its packet asked for. device_status is 0 only if the packet was
- * accepted, so one test of it is enough; line_status tells whether to ask again. */
+ * accepted, so one test of it is enough; line_status tells whether to ask again.
+ *
+ * A reply with status 10 has the place of the fault as its two data bytes: that is fault_place. If it has any other
+ * number of them, as none from a controller before version 0.5, fault_place is VERMOLGAS_NO_PLACE; so it is, too, if
+ * the bytes are no reply and that is what the 10 says. */
 VERMOLGAS_INLINE_ struct vermolgas_reply_result vermolgas_reply_read(const struct vermolgas_reply *reply,
                                                                      size_t length, bool checksum)
 {
-    struct vermolgas_reply_result result = {VERMOLGAS_REFUSED_LENT, VERMOLGAS_REFUSED_LENT, NULL, 0};
+    struct vermolgas_reply_result result = {VERMOLGAS_REFUSED_LENT, VERMOLGAS_REFUSED_LENT, NULL, 0, 0};
+    const uint8_t *data;
+    size_t data_length;
     uint64_t read;
 
     if (reply == NULL)
@@ -96,12 +163,18 @@ VERMOLGAS_INLINE_ struct vermolgas_reply_result vermolgas_reply_read(const struc
     read = length > sizeof reply->bytes ? VERMOLGAS_CAST(uint64_t, VERMOLGAS_REFUSED_TOO_LONG)
                                         : vermolgas_read_reply(reply->bytes, length, checksum ? 1 : 0);
     result.line_status = result.device_status = VERMOLGAS_STATUS(read);
-    if (result.line_status != VERMOLGAS_ACCEPTED)
+    if (result.line_status != VERMOLGAS_ACCEPTED) {
+        result.fault_place = result.line_status == VERMOLGAS_REFUSED_RANGE ? VERMOLGAS_NO_PLACE : 0;
         return result;
+    }
+    data = reply->bytes + VERMOLGAS_REPLY_OFFSET;
+    data_length = VERMOLGAS_REPLY_LENGTH(read);
     result.device_status = VERMOLGAS_REPLY_STATUS(read);
-    if (result.device_status == VERMOLGAS_ACCEPTED && VERMOLGAS_REPLY_LENGTH(read) > 0) {
-        result.data = reply->bytes + VERMOLGAS_REPLY_OFFSET;
-        result.data_length = VERMOLGAS_REPLY_LENGTH(read);
+    if (result.device_status == VERMOLGAS_REFUSED_RANGE) {
+        result.fault_place = data_length == 2 ? vermolgas_word_(data) : VERMOLGAS_NO_PLACE;
+    } else if (result.device_status == VERMOLGAS_ACCEPTED && data_length > 0) {
+        result.data = data;
+        result.data_length = data_length;
     }
     return result;
 }
@@ -110,7 +183,7 @@ VERMOLGAS_INLINE_ struct vermolgas_reply_result vermolgas_reply_read(const struc
 VERMOLGAS_INLINE_ struct vermolgas_result vermolgas_device_send(struct vermolgas_device *device, const uint8_t *packet,
                                                                 size_t length, struct vermolgas_reply *reply)
 {
-    struct vermolgas_result result = {VERMOLGAS_REFUSED_LENT, 0, NULL, 0};
+    struct vermolgas_result result = {VERMOLGAS_REFUSED_LENT, 0, NULL, 0, 0};
     uint64_t answer;
 
     if (device == NULL || reply == NULL || (packet == NULL && length > 0))
@@ -120,6 +193,7 @@ VERMOLGAS_INLINE_ struct vermolgas_result vermolgas_device_send(struct vermolgas
                               sizeof device->gains, reply->bytes, sizeof reply->bytes);
     result.status = VERMOLGAS_STATUS(answer);
     result.reply_length = VERMOLGAS_PACKET_REPLY_LENGTH(answer);
+    result.fault_place = vermolgas_place_in_(answer);
     if (result.reply_length > 0) { /* and so the packet has a first byte */
         struct vermolgas_reply_result read =
             vermolgas_reply_read(reply, result.reply_length, (packet[0] & VERMOLGAS_OPTION_CHECKSUM) != 0);
@@ -134,7 +208,7 @@ struct vermolgas_command {
     unsigned status; /* 0, or why it was not made */
     size_t length;
     uint8_t bytes[VERMOLGAS_LONGEST];
-    /* The place of a fault, on refusal 10, will be a field here. */
+    size_t fault_place; /* on refusal 10 the place of the value in the data that it was to carry; else 0 */
 };
 
 /* Options of a line that loses bytes: checksums both ways, and a reply. */
@@ -151,9 +225,11 @@ struct vermolgas_point {
 #define VERMOLGAS_READ_POINTS  127
 #define VERMOLGAS_READ_GAINS   254
 
-/* Data under writing: what is filled, and the first refusal that applies, which is the lowest. */
+/* Data under writing: what is filled, and the first refusal that applies, which is the lowest; of several by 10 that of
+ * the first field. */
 struct vermolgas_data_ {
     unsigned status;
+    size_t fault_place;
     size_t length;
     uint8_t bytes[VERMOLGAS_LONGEST];
 };
@@ -165,10 +241,14 @@ VERMOLGAS_INLINE_ struct vermolgas_data_ vermolgas_no_data_(void)
     return data;
 }
 
-static inline void vermolgas_refuse_(struct vermolgas_data_ *data, unsigned status)
+/* The place counts with status 10, and is 0 with any other. */
+static inline void vermolgas_refuse_(struct vermolgas_data_ *data, unsigned status, size_t fault_place)
 {
-    if (data->status == VERMOLGAS_ACCEPTED || data->status > status)
-        data->status = status;
+    if (data->status != VERMOLGAS_ACCEPTED &&
+        (data->status < status || (data->status == status && data->fault_place <= fault_place)))
+        return;
+    data->status = status;
+    data->fault_place = fault_place;
 }
 
 /* For a list, of which so many items fit a packet. */
@@ -176,9 +256,9 @@ VERMOLGAS_INLINE_ struct vermolgas_data_ vermolgas_data_for_(const void *list, s
 {
     struct vermolgas_data_ data = vermolgas_no_data_();
     if (list == NULL && count > 0)
-        vermolgas_refuse_(&data, VERMOLGAS_REFUSED_LENT);
+        vermolgas_refuse_(&data, VERMOLGAS_REFUSED_LENT, 0);
     if (count > most)
-        vermolgas_refuse_(&data, VERMOLGAS_REFUSED_TOO_LONG);
+        vermolgas_refuse_(&data, VERMOLGAS_REFUSED_TOO_LONG, 0);
     return data;
 }
 
@@ -189,7 +269,7 @@ static inline void vermolgas_put_(struct vermolgas_data_ *data, size_t number, s
     size_t i;
 
     if (number >> (8 * bytes) != 0)
-        vermolgas_refuse_(data, VERMOLGAS_REFUSED_RANGE);
+        vermolgas_refuse_(data, VERMOLGAS_REFUSED_RANGE, data->length);
     for (i = 0; i < bytes; i++)
         data->bytes[data->length++] = VERMOLGAS_CAST(uint8_t, number >> (8 * i) & 0xFFu);
 }
@@ -198,15 +278,16 @@ static inline void vermolgas_put_(struct vermolgas_data_ *data, size_t number, s
 static inline void vermolgas_put_start_(struct vermolgas_data_ *data, size_t start)
 {
     if (start > 0xFFFF)
-        vermolgas_refuse_(data, VERMOLGAS_REFUSED_PAST_TABLE);
+        vermolgas_refuse_(data, VERMOLGAS_REFUSED_PAST_TABLE, 0);
     vermolgas_put_(data, start & 0xFFFF, 2);
 }
 
-VERMOLGAS_INLINE_ struct vermolgas_command vermolgas_refused_(unsigned status)
+VERMOLGAS_INLINE_ struct vermolgas_command vermolgas_refused_(unsigned status, size_t fault_place)
 {
     struct vermolgas_command command;
     memset(&command, 0, sizeof command);
     command.status = status;
+    command.fault_place = fault_place;
     return command;
 }
 
@@ -214,7 +295,7 @@ VERMOLGAS_INLINE_ struct vermolgas_command vermolgas_refused_(unsigned status)
 VERMOLGAS_INLINE_ struct vermolgas_command vermolgas_make_command(enum vermolgas_opcode opcode, uint8_t options,
                                                                   const uint8_t *data, size_t length)
 {
-    struct vermolgas_command command = vermolgas_refused_(VERMOLGAS_REFUSED_LENT);
+    struct vermolgas_command command = vermolgas_refused_(VERMOLGAS_REFUSED_LENT, 0);
     unsigned number = opcode;
     uint64_t made;
 
@@ -225,6 +306,7 @@ VERMOLGAS_INLINE_ struct vermolgas_command vermolgas_make_command(enum vermolgas
     made = vermolgas_make(VERMOLGAS_CAST(uint16_t, number), options, data, length, command.bytes, sizeof command.bytes);
     command.status = VERMOLGAS_STATUS(made);
     command.length = VERMOLGAS_MAKE_LENGTH(made);
+    command.fault_place = vermolgas_place_in_(made);
     return command;
 }
 
@@ -238,8 +320,8 @@ VERMOLGAS_INLINE_ struct vermolgas_command vermolgas_make_from_(enum vermolgas_o
     if (data->status == VERMOLGAS_ACCEPTED)
         return command;
     if (command.status != VERMOLGAS_ACCEPTED)
-        vermolgas_refuse_(data, command.status);
-    return vermolgas_refused_(data->status);
+        vermolgas_refuse_(data, command.status, command.fault_place);
+    return vermolgas_refused_(data->status, data->fault_place);
 }
 
 /* A command whose data is one number. */
@@ -309,7 +391,7 @@ VERMOLGAS_INLINE_ struct vermolgas_command vermolgas_make_points(size_t start, c
     size_t i;
 
     if (data.status != VERMOLGAS_ACCEPTED)
-        return vermolgas_refused_(data.status);
+        return vermolgas_refused_(data.status, 0);
     vermolgas_put_start_(&data, start);
     for (i = 0; i < count; i++) {
         vermolgas_put_(&data, points[i].x, 2);
@@ -327,7 +409,7 @@ VERMOLGAS_INLINE_ struct vermolgas_command vermolgas_make_gains(enum vermolgas_g
     size_t i;
 
     if (data.status != VERMOLGAS_ACCEPTED)
-        return vermolgas_refused_(data.status);
+        return vermolgas_refused_(data.status, 0);
     vermolgas_put_(&data, 0, 1); /* not compressed */
     vermolgas_put_(&data, colour, 1);
     vermolgas_put_(&data, count, 2);
@@ -370,10 +452,10 @@ VERMOLGAS_INLINE_ struct vermolgas_command vermolgas_make_checked(const uint8_t 
     uint64_t read;
 
     if (packet == NULL && length > 0)
-        return vermolgas_refused_(VERMOLGAS_REFUSED_LENT);
+        return vermolgas_refused_(VERMOLGAS_REFUSED_LENT, 0);
     read = vermolgas_read(packet, length);
     if (VERMOLGAS_STATUS(read) != VERMOLGAS_ACCEPTED)
-        return vermolgas_refused_(VERMOLGAS_STATUS(read));
+        return vermolgas_refused_(VERMOLGAS_STATUS(read), vermolgas_place_in_(read));
     return vermolgas_make_command(VERMOLGAS_CAST(enum vermolgas_opcode, VERMOLGAS_READ_OPCODE(read)),
                                   VERMOLGAS_CAST(uint8_t, VERMOLGAS_READ_OPTIONS(read) | VERMOLGAS_OPTIONS_CHECKED),
                                   packet + VERMOLGAS_READ_OFFSET(read), VERMOLGAS_READ_LENGTH(read));
@@ -515,11 +597,6 @@ VERMOLGAS_INLINE_ bool vermolgas_walk_within_(const struct vermolgas_walk *walk)
     return upload != NULL && upload->points == walk->points && upload->packets == walk->packets &&
            upload->bytes == walk->bytes && walk->packets <= VERMOLGAS_MOST_POINTS &&
            walk->bytes <= sizeof upload->batch && walk->next_offset <= walk->bytes;
-}
-
-VERMOLGAS_INLINE_ size_t vermolgas_word_(const uint8_t *bytes)
-{
-    return VERMOLGAS_CAST(size_t, bytes[0] | bytes[1] << 8);
 }
 
 /* Whether a packet begins as a 34h write of so many points from start on does. */

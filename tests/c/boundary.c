@@ -246,6 +246,69 @@ static void right_buffers(void)
     end(parts);
 }
 
+/* Data whose last field alone is out of range: made and read from buffers that end with it, and sent. */
+static void refuse_at_end(uint8_t opcode, uint8_t options, const uint8_t *bytes, size_t length, struct buffer *parts)
+{
+    bool word = opcode == 0x2B || opcode == 0x34 || (opcode == 0x35 && length > 1); /* has a last field of two bytes */
+    size_t place = length - (word ? 2 : 1);
+    uint64_t due = VERMOLGAS_REFUSED_RANGE | (uint64_t)place << 32;
+    uint8_t packet_bytes[VERMOLGAS_LONGEST] = {4 | VERMOLGAS_OPTION_LENGTH | VERMOLGAS_OPTION_REPLY | options, opcode,
+                                               (uint8_t)length, (uint8_t)(length >> 8)};
+    memcpy(packet_bytes + 4, bytes, length);
+    struct buffer data = lend(bytes, length), sent = lend(packet_bytes, 4 + length), room = pattern(VERMOLGAS_LONGEST);
+    CHECK(vermolgas_make(opcode, packet_bytes[0], data.bytes, data.length, room.bytes, room.length) == due);
+    CHECK(vermolgas_read(sent.bytes, sent.length) == due);
+    settle(parts);
+    CHECK(packet(&sent, parts) == (due | 5 << 8));
+    const uint8_t reply[] = {0x0A, 0x02, 0x00, (uint8_t)place, (uint8_t)(place >> 8)};
+    CHECK(memcmp(parts[REPLY].bytes, reply, sizeof reply) == 0 && unchanged_from(&parts[REPLY], sizeof reply));
+    CHECK(unchanged(&data) && unchanged(&sent) && unchanged(&room));
+    for (int part = 0; part < REPLY; part++)
+        CHECK(unchanged(&parts[part]));
+    give_back(&data);
+    give_back(&sent);
+    give_back(&room);
+}
+
+/* Fixed data whose last field is at fault, and short data of the others: a place is named where the slice ends. */
+static void faults_at_end(void)
+{
+    static const struct {
+        uint8_t opcode, options;
+        size_t length;
+        uint8_t bytes[11];
+    } faulty[] = {
+        {0x11, 0, 1, {5}},
+        {0x39, 0, 1, {2}},
+        {0x60, 0, 4, {87, 1, 1, 2}},
+        {0x61, 0, 2, {87, 2}},
+        {0x65, 0, 7, {13, 20, 0, 0, 0, 100, 2}},
+        {0x6D, 0, 11, {2, 1, 11, 3, 1, 2, 1, 4, 4, 1, 2}},
+        {0x35, 0, 1, {2}},
+        {0x35, 0, 5, {0, 62, 0, 33, 0}},
+        {0x38, 0, 2, {5, 6}},
+        {0x2B, VERMOLGAS_OPTION_READ, 5, {3, 0, 0, 255, 0}},
+        {0x34, VERMOLGAS_OPTION_READ, 4, {0, 0, 128, 0}},
+        {0x60, VERMOLGAS_OPTION_READ, 1, {88}},
+        {0x65, VERMOLGAS_OPTION_READ, 1, {14}},
+    };
+    uint8_t lists[189] = {1}, words[6 + 2 * 251] = {0, 0, 251}, pairs[6 + 4 * 125] = {1, 0, 250};
+    struct buffer parts[PARTS];
+    start(parts);
+    for (size_t i = 0; i < sizeof faulty / sizeof *faulty; i++)
+        refuse_at_end(faulty[i].opcode, faulty[i].options, faulty[i].bytes, faulty[i].length, parts);
+    for (size_t i = 0; i < 93; i++)
+        lists[1 + 2 * i] = (uint8_t)(i < 62 ? i : i - 62);
+    refuse_at_end(0x35, 0, lists, sizeof lists, parts);
+    words[sizeof words - 1] = 0x20;
+    refuse_at_end(0x2B, 0, words, sizeof words, parts);
+    for (size_t i = 0; i < 125; i++)
+        pairs[6 + 4 * i] = 1;
+    pairs[sizeof pairs - 1] = 0x20;
+    refuse_at_end(0x2B, 0, pairs, sizeof pairs, parts);
+    end(parts);
+}
+
 /* One of the lengths wrong, on packets and on reset. */
 static void wrong_buffers(void)
 {
@@ -699,6 +762,7 @@ static void refuse_splitting(void)
 
 static const struct group groups[] = {
     {"right buffers", right_buffers},       {"wrong buffers", wrong_buffers},    {"cut packets", cut_packets},
+    {"faults at the end", faults_at_end},
     {"making", make_packets},               {"replies", read_replies},           {"plans", plan_uploads},
     {"longer rooms", plan_in_longer_rooms}, {"short rooms", refuse_short_rooms}, {"plans refused", refuse_plans},
     {"blends", blends},                     {"compressing refused", refuse_compressing},

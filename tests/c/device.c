@@ -26,15 +26,17 @@ static bool bytes_are(const uint8_t *bytes, size_t length, const char *hex)
     return *hex == '\0';
 }
 
-/* Whether a command was made, of these bytes; and whether it was refused with this number, and has none. */
+/* Whether a command was made, of these bytes; and whether it was refused with this number and this place, and has
+ * none. */
 static bool made(const struct vermolgas_command *command, const char *hex)
 {
-    return command->status == VERMOLGAS_ACCEPTED && bytes_are(command->bytes, command->length, hex);
+    return command->status == VERMOLGAS_ACCEPTED && bytes_are(command->bytes, command->length, hex) &&
+           command->fault_place == 0;
 }
 
-static bool refused(const struct vermolgas_command *command, unsigned status)
+static bool refused(const struct vermolgas_command *command, unsigned status, size_t fault_place)
 {
-    return command->status == status && command->length == 0;
+    return command->status == status && command->length == 0 && command->fault_place == fault_place;
 }
 
 /* One-line checks of makers. */
@@ -46,7 +48,12 @@ static bool refused(const struct vermolgas_command *command, unsigned status)
 #define CHECK_REFUSED(call, status)                                                                                   \
     do {                                                                                                              \
         struct vermolgas_command command_ = call;                                                                     \
-        CHECK(refused(&command_, status) && #call);                                                                   \
+        CHECK(refused(&command_, status, 0) && #call);                                                                \
+    } while (0)
+#define CHECK_FAULT(call, fault_place)                                                                                \
+    do {                                                                                                              \
+        struct vermolgas_command command_ = call;                                                                     \
+        CHECK(refused(&command_, VERMOLGAS_REFUSED_RANGE, fault_place) && #call);                                     \
     } while (0)
 
 static struct vermolgas_point point_at(unsigned x, unsigned y)
@@ -232,11 +239,12 @@ static void sending(void)
 
     start();
     result = send_bytes(3, 0x04, 0x11, 0x01, 0);
-    CHECK(result.status == VERMOLGAS_ACCEPTED && result.reply_length == 0);
+    CHECK(result.status == VERMOLGAS_ACCEPTED && result.reply_length == 0 && result.fault_place == 0);
     CHECK(result.data == NULL && result.data_length == 0 && reply.bytes[0] == 0xAA && device.block[0] == 1);
     result = send_bytes(2, 0x84, 0x11, 0, 0);
     CHECK(result.status == VERMOLGAS_ACCEPTED && result.reply_length == 4);
     CHECK(result.data == reply.bytes + 3 && bytes_are(result.data, result.data_length, "01"));
+    CHECK(result.fault_place == 0);
     result = send_bytes(3, 0xA4, 0x11, 0x59, 0);
     CHECK(result.status == VERMOLGAS_ACCEPTED && result.reply_length == 5);
     CHECK(bytes_are(result.data, result.data_length, "01"));
@@ -246,10 +254,15 @@ static void sending(void)
 
     before = device;
     result = send_bytes(3, 0x44, 0x11, 0x05, 0);
-    CHECK(result.status == VERMOLGAS_REFUSED_RANGE && result.reply_length >= 3);
-    CHECK(result.data == NULL && result.data_length == 0);
+    CHECK(result.status == VERMOLGAS_REFUSED_RANGE && result.reply_length == 5 && result.fault_place == 0);
+    CHECK(result.data == NULL && result.data_length == 0 && bytes_are(reply.bytes, 5, "0A 02 00 00 00"));
+    result = send_bytes(4, 0x44, 0x61, 0x57, 0x02); /* the second byte */
+    CHECK(result.status == VERMOLGAS_REFUSED_RANGE && result.reply_length == 5 && result.fault_place == 1);
+    CHECK(result.data == NULL && result.data_length == 0 && bytes_are(reply.bytes, 5, "0A 02 00 01 00"));
+    result = send_bytes(4, 0x04, 0x61, 0x57, 0x02); /* the place is there without a reply, too */
+    CHECK(result.status == VERMOLGAS_REFUSED_RANGE && result.reply_length == 0 && result.fault_place == 1);
     result = send_bytes(4, 0x64, 0x11, 0x01, 0x00);
-    CHECK(result.status == VERMOLGAS_REFUSED_CHECKSUM && result.reply_length == 4);
+    CHECK(result.status == VERMOLGAS_REFUSED_CHECKSUM && result.reply_length == 4 && result.fault_place == 0);
     result = send_bytes(0, 0, 0, 0, 0);
     CHECK(result.status == VERMOLGAS_REFUSED_TOO_SHORT && result.reply_length == 0);
     result = vermolgas_device_send(&device, NULL, 0, &reply);
@@ -280,9 +293,7 @@ static void replies(void)
     result = read_hex("0C 00 00 24", true);
     CHECK(result.line_status == VERMOLGAS_ACCEPTED && result.device_status == VERMOLGAS_REFUSED_PAST_TABLE);
     CHECK(result.data == NULL && result.data_length == 0);
-    result = read_hex("0A 02 00 04 00", false); /* data of a refusal is no data of a read */
-    CHECK(result.line_status == VERMOLGAS_ACCEPTED && result.device_status == VERMOLGAS_REFUSED_RANGE);
-    CHECK(result.data == NULL && result.data_length == 0);
+    CHECK(result.fault_place == 0);
 
     /* What is no reply is nowhere an accepted one. */
     result = read_hex("0C 00 00 0C", true);
@@ -295,7 +306,65 @@ static void replies(void)
     CHECK(result.line_status == VERMOLGAS_REFUSED_TOO_LONG && result.device_status == VERMOLGAS_REFUSED_TOO_LONG);
     result = vermolgas_reply_read(&reply, SIZE_MAX, true);
     CHECK(result.line_status == VERMOLGAS_REFUSED_TOO_LONG && result.device_status == VERMOLGAS_REFUSED_TOO_LONG);
-    CHECK(result.data == NULL && result.data_length == 0);
+    CHECK(result.data == NULL && result.data_length == 0 && result.fault_place == 0);
+}
+
+/* Whether a reply says that the packet was refused with 10, and where; its data is none of a read. */
+static bool tells(struct vermolgas_reply_result result, size_t fault_place)
+{
+    return result.line_status == VERMOLGAS_ACCEPTED && result.device_status == VERMOLGAS_REFUSED_RANGE &&
+           result.fault_place == fault_place && result.data == NULL && result.data_length == 0;
+}
+
+/* Places in replies. A place that was not sent is not known, and no number of one is made up. */
+static void places_in_replies(void)
+{
+    struct vermolgas_reply_result result;
+
+    CHECK(tells(read_hex("0A 02 00 00 00", false), 0));
+    CHECK(tells(read_hex("0A 02 00 04 00", false), 4));
+    CHECK(tells(read_hex("0A 02 00 FA 01 2F", true), 506));
+    CHECK(tells(read_hex("0A 02 00 FF FF", false), 0xFFFF));
+    CHECK(tells(read_hex("0A 00 00", false), VERMOLGAS_NO_PLACE)); /* from before version 0.5 */
+    CHECK(tells(read_hex("0A 00 00 1E", true), VERMOLGAS_NO_PLACE));
+    CHECK(tells(read_hex("0A 01 00 05", false), VERMOLGAS_NO_PLACE));
+    CHECK(tells(read_hex("0A 03 00 05 00 00", false), VERMOLGAS_NO_PLACE));
+    CHECK(VERMOLGAS_NO_PLACE > VERMOLGAS_LONGEST);
+
+    /* What is no reply has none, either: a status of 13, and a checksum that is wrong. */
+    result = read_hex("0D 02 00 04 00", false);
+    CHECK(result.line_status == VERMOLGAS_REFUSED_RANGE && result.device_status == VERMOLGAS_REFUSED_RANGE);
+    CHECK(result.fault_place == VERMOLGAS_NO_PLACE && result.data == NULL && result.data_length == 0);
+    result = read_hex("0A 02 00 04 00 00", true);
+    CHECK(result.device_status == VERMOLGAS_REFUSED_CHECKSUM && result.fault_place == 0);
+    /* Other refusals have no place, whatever data comes with them. */
+    result = read_hex("0C 02 00 04 00", false);
+    CHECK(result.device_status == VERMOLGAS_REFUSED_PAST_TABLE && result.fault_place == 0 && result.data == NULL);
+    CHECK(vermolgas_reply_read(NULL, 5, false).fault_place == 0);
+}
+
+/* Gains of which one is too large: each maker, the device and its reply say which. */
+static void places_of_gains(void)
+{
+    uint16_t gains[250] = {0};
+    struct vermolgas_command sound, command;
+    struct vermolgas_result result;
+    size_t gain, place;
+
+    start();
+    sound = vermolgas_make_gains(VERMOLGAS_GAIN_RED, 0, gains, COUNT(gains), VERMOLGAS_OPTION_REPLY);
+    for (gain = 0; gain < COUNT(gains); gain++) {
+        place = 6 + 2 * gain;
+        gains[gain] = VERMOLGAS_GAIN_HIGHEST + 1;
+        CHECK_FAULT(vermolgas_make_gains(VERMOLGAS_GAIN_RED, 0, gains, COUNT(gains), 0), place);
+        gains[gain] = 0;
+        command = sound;
+        command.bytes[4 + place + 1] = 0x20; /* behind header, opcode and length */
+        CHECK_FAULT(vermolgas_make_checked(command.bytes, command.length), place);
+        result = send(&command);
+        CHECK(result.status == VERMOLGAS_REFUSED_RANGE && result.fault_place == place && result.data == NULL);
+        CHECK(tells(vermolgas_reply_read(&reply, result.reply_length, false), place));
+    }
 }
 
 static void makers(void)
@@ -332,12 +401,12 @@ static void makers_refused(void)
 {
     static const uint8_t data[600] = {0};
 
-    CHECK_REFUSED(vermolgas_make_display(VERMOLGAS_CAST(enum vermolgas_display, 257u), 0), VERMOLGAS_REFUSED_RANGE);
-    CHECK_REFUSED(vermolgas_make_curtain(VERMOLGAS_CAST(enum vermolgas_curtain, UINT_MAX), 0), VERMOLGAS_REFUSED_RANGE);
-    CHECK_REFUSED(vermolgas_make_flip(VERMOLGAS_CAST(enum vermolgas_flip, 4u), 0), VERMOLGAS_REFUSED_RANGE);
-    CHECK_REFUSED(vermolgas_make_look(0x10000, 0), VERMOLGAS_REFUSED_RANGE);
-    CHECK_REFUSED(vermolgas_make_shape(0x10003, 2, 0), VERMOLGAS_REFUSED_RANGE);
-    CHECK_REFUSED(vermolgas_make_shape(2, 33, 0), VERMOLGAS_REFUSED_RANGE);
+    CHECK_FAULT(vermolgas_make_display(VERMOLGAS_CAST(enum vermolgas_display, 257u), 0), 0);
+    CHECK_FAULT(vermolgas_make_curtain(VERMOLGAS_CAST(enum vermolgas_curtain, UINT_MAX), 0), 0);
+    CHECK_FAULT(vermolgas_make_flip(VERMOLGAS_CAST(enum vermolgas_flip, 4u), 0), 0);
+    CHECK_FAULT(vermolgas_make_look(0x10000, 0), 0);
+    CHECK_FAULT(vermolgas_make_shape(0x10003, 2, 0), 1);
+    CHECK_FAULT(vermolgas_make_shape(2, 33, 0), 3);
     CHECK_REFUSED(vermolgas_make_command(VERMOLGAS_CAST(enum vermolgas_opcode, 0x10011u), 0, data, 1),
                   VERMOLGAS_REFUSED_OPCODE);
     CHECK_REFUSED(vermolgas_make_command(VERMOLGAS_OP_GAINS, VERMOLGAS_OPTION_LENGTH, data, sizeof data),
@@ -346,17 +415,42 @@ static void makers_refused(void)
     CHECK_REFUSED(vermolgas_make_command(VERMOLGAS_OP_DISPLAY, 0, NULL, SIZE_MAX), VERMOLGAS_REFUSED_LENT);
     CHECK_REFUSED(vermolgas_make_display(VERMOLGAS_DISPLAY_SPLASH, VERMOLGAS_OPTION_READ), VERMOLGAS_REFUSED_SIZE);
     CHECK_REFUSED(vermolgas_make_read(VERMOLGAS_OP_GPIO_PIN, 0), VERMOLGAS_REFUSED_SIZE);
-    CHECK_REFUSED(vermolgas_make_read_points(0, VERMOLGAS_READ_POINTS + 1, 0), VERMOLGAS_REFUSED_RANGE);
-    CHECK_REFUSED(vermolgas_make_read_points(0, 0x10001, 0), VERMOLGAS_REFUSED_RANGE);
+    CHECK_FAULT(vermolgas_make_read_points(0, VERMOLGAS_READ_POINTS + 1, 0), 2);
+    CHECK_FAULT(vermolgas_make_read_points(0, 0x10001, 0), 2);
     CHECK_REFUSED(vermolgas_make_read_points(0x10000, 1, 0), VERMOLGAS_REFUSED_PAST_TABLE);
-    CHECK_REFUSED(vermolgas_make_read_gains(VERMOLGAS_GAIN_ALL, 0, 1, 0), VERMOLGAS_REFUSED_RANGE);
-    CHECK_REFUSED(vermolgas_make_read_gains(VERMOLGAS_GAIN_RED, 0, VERMOLGAS_READ_GAINS + 1, 0),
-                  VERMOLGAS_REFUSED_RANGE);
+    CHECK_FAULT(vermolgas_make_read_gains(VERMOLGAS_GAIN_ALL, 0, 1, 0), 0);
+    CHECK_FAULT(vermolgas_make_read_gains(VERMOLGAS_GAIN_RED, 0, VERMOLGAS_READ_GAINS + 1, 0), 3);
 
     /* The number is the first that applies, whoever finds it. */
     CHECK_REFUSED(vermolgas_make_look(0x10000, VERMOLGAS_OPTION_READ), VERMOLGAS_REFUSED_SIZE);
-    CHECK_REFUSED(vermolgas_make_read_points(0x10000, 0, 0), VERMOLGAS_REFUSED_RANGE);
-    CHECK_REFUSED(vermolgas_make_read_points(0x10000, 0x10000, 0), VERMOLGAS_REFUSED_RANGE);
+    CHECK_FAULT(vermolgas_make_read_points(0x10000, 0, 0), 2);
+    CHECK_FAULT(vermolgas_make_read_points(0x10000, 0x10000, 0), 2);
+}
+
+/* Of two fields at fault the first is named, whoever finds which: the layer those that are cut off, the entry those
+ * that are out of range. */
+static void first_faults(void)
+{
+    static const uint16_t high[] = {0, VERMOLGAS_GAIN_HIGHEST + 1, VERMOLGAS_GAIN_HIGHEST + 1};
+    enum vermolgas_gain_colour cut_off = VERMOLGAS_CAST(enum vermolgas_gain_colour, 257u);
+    enum vermolgas_gain_colour none = VERMOLGAS_CAST(enum vermolgas_gain_colour, 4u);
+
+    CHECK_FAULT(vermolgas_make_shape(1, 1, 0), 1);
+    CHECK_FAULT(vermolgas_make_shape(0x10003, 1, 0), 1);
+    CHECK_FAULT(vermolgas_make_shape(1, 0x10003, 0), 1);
+    CHECK_FAULT(vermolgas_make_shape(0x10003, 0x10003, 0), 1);
+    CHECK_FAULT(vermolgas_make_shape(3, 0x10003, 0), 3);
+    CHECK_FAULT(vermolgas_make_gains(VERMOLGAS_GAIN_RED, 0, high, 3, 0), 8);
+    CHECK_FAULT(vermolgas_make_gains(none, 0, high, 3, 0), 1);
+    CHECK_FAULT(vermolgas_make_gains(cut_off, 0, high, 3, 0), 1);
+    CHECK_FAULT(vermolgas_make_gains(cut_off, SIZE_MAX, high, 1, 0), 1);
+    CHECK_FAULT(vermolgas_make_gains(VERMOLGAS_GAIN_RED, SIZE_MAX, high, 3, 0), 8);
+    CHECK_FAULT(vermolgas_make_gains(none, SIZE_MAX, high, 0, 0), 1);
+    CHECK_FAULT(vermolgas_make_read_gains(cut_off, 0, 0, 0), 0);
+    CHECK_FAULT(vermolgas_make_read_gains(none, 0, 0x10001, 0), 0);
+    CHECK_FAULT(vermolgas_make_read_gains(VERMOLGAS_GAIN_RED, 0, 0x10001, 0), 3);
+    CHECK_FAULT(vermolgas_make_read_gains(VERMOLGAS_GAIN_RED, SIZE_MAX, 0x10001, 0), 3);
+    CHECK_REFUSED(vermolgas_make_gains(cut_off, 0, high, VERMOLGAS_WRITE_GAINS + 1, 0), VERMOLGAS_REFUSED_TOO_LONG);
 }
 
 static void tables_refused(void)
@@ -382,12 +476,11 @@ static void tables_refused(void)
     CHECK_REFUSED(vermolgas_make_gains(VERMOLGAS_GAIN_ALL, 0, gains, VERMOLGAS_WRITE_GAINS + 1, 0),
                   VERMOLGAS_REFUSED_TOO_LONG);
     CHECK_REFUSED(vermolgas_make_gains(VERMOLGAS_GAIN_ALL, 0, gains, SIZE_MAX, 0), VERMOLGAS_REFUSED_TOO_LONG);
-    CHECK_REFUSED(vermolgas_make_gains(VERMOLGAS_GAIN_ALL, 0, NULL, 0, 0), VERMOLGAS_REFUSED_RANGE);
+    CHECK_FAULT(vermolgas_make_gains(VERMOLGAS_GAIN_ALL, 0, NULL, 0, 0), 2);
     CHECK_REFUSED(vermolgas_make_gains(VERMOLGAS_GAIN_ALL, 0, NULL, 1, 0), VERMOLGAS_REFUSED_LENT);
     CHECK_REFUSED(vermolgas_make_gains(VERMOLGAS_GAIN_ALL, SIZE_MAX, gains, 1, 0), VERMOLGAS_REFUSED_PAST_TABLE);
-    CHECK_REFUSED(vermolgas_make_gains(VERMOLGAS_GAIN_RED, 0, high, 1, 0), VERMOLGAS_REFUSED_RANGE);
-    CHECK_REFUSED(vermolgas_make_gains(VERMOLGAS_CAST(enum vermolgas_gain_colour, 257u), 0, gains, 1, 0),
-                  VERMOLGAS_REFUSED_RANGE);
+    CHECK_FAULT(vermolgas_make_gains(VERMOLGAS_GAIN_RED, 0, high, 1, 0), 6);
+    CHECK_FAULT(vermolgas_make_gains(VERMOLGAS_CAST(enum vermolgas_gain_colour, 257u), 0, gains, 1, 0), 1);
 }
 
 /* The makers' commands on a device, and what the largest reads return. */
@@ -867,11 +960,58 @@ static void words(void)
     CHECK(strcmp(vermolgas_refusal_text(99), "no such refusal") == 0);
 }
 
+/* Whether a line in so much room is this text, as far as that goes, its length is answered, and no byte behind is
+ * written. */
+static bool writes(size_t room, unsigned number, size_t fault_place, const char *text)
+{
+    char line[VERMOLGAS_LINE_BYTES + 8];
+    size_t whole = strlen(text), kept = room == 0 ? 0 : whole < room ? whole : room - 1, i;
+
+    memset(line, 'X', sizeof line);
+    if (vermolgas_refusal_line(line, room, number, fault_place) != whole || memcmp(line, text, kept) != 0)
+        return false;
+    if (room > 0 && line[kept] != '\0')
+        return false;
+    for (i = room == 0 ? 0 : kept + 1; i < sizeof line; i++)
+        if (line[i] != 'X')
+            return false;
+    return true;
+}
+
+static void lines(void)
+{
+    size_t room;
+    unsigned number;
+
+    for (room = 0; room <= VERMOLGAS_LINE_BYTES; room++) {
+        CHECK(writes(room, VERMOLGAS_REFUSED_RANGE, 0, "a value is out of range, at data byte 0"));
+        CHECK(writes(room, VERMOLGAS_REFUSED_RANGE, 5, "a value is out of range, at data byte 5"));
+        CHECK(writes(room, VERMOLGAS_REFUSED_RANGE, 10, "a value is out of range, at data byte 10"));
+        CHECK(writes(room, VERMOLGAS_REFUSED_RANGE, 506, "a value is out of range, at data byte 506"));
+        CHECK(writes(room, VERMOLGAS_REFUSED_RANGE, 65535, "a value is out of range, at data byte 65535"));
+        CHECK(writes(room, VERMOLGAS_REFUSED_RANGE, VERMOLGAS_NO_PLACE, "a value is out of range"));
+        for (number = 0; number <= 13; number++) /* with any other number the place is not looked at */
+            if (number != VERMOLGAS_REFUSED_RANGE) {
+                CHECK(writes(room, number, 0, vermolgas_refusal_text(number)));
+                CHECK(writes(room, number, 5, vermolgas_refusal_text(number)));
+            }
+    }
+    CHECK(vermolgas_refusal_line(NULL, 0, VERMOLGAS_REFUSED_RANGE, 5) == 39);
+    CHECK(vermolgas_refusal_line(NULL, 100, VERMOLGAS_REFUSED_RANGE, 5) == 39);
+    CHECK(vermolgas_refusal_line(NULL, 0, VERMOLGAS_ACCEPTED, 0) == strlen("accepted"));
+
+    /* Every line fits the room that is said to do for all. */
+    for (number = 0; number <= 13; number++)
+        CHECK(vermolgas_refusal_line(NULL, 0, number, SIZE_MAX - 1) < VERMOLGAS_LINE_BYTES);
+    CHECK(vermolgas_refusal_line(NULL, 0, UINT_MAX, 0) < VERMOLGAS_LINE_BYTES);
+}
+
 static void version(void)
 {
     CHECK(VERMOLGAS_VERSION ==
           10000 * VERMOLGAS_VERSION_MAJOR + 100 * VERMOLGAS_VERSION_MINOR + VERMOLGAS_VERSION_PATCH);
     CHECK(VERMOLGAS_VERSION > 0 && VERMOLGAS_VERSION_MINOR < 100 && VERMOLGAS_VERSION_PATCH < 100);
+    CHECK(VERMOLGAS_VERSION >= 500); /* refusals by 10 have places from here on */
 }
 
 static const struct group groups[] = {
@@ -880,8 +1020,11 @@ static const struct group groups[] = {
     {"listed control points", listed_control_points},
     {"sending", sending},
     {"replies", replies},
+    {"places in replies", places_in_replies},
+    {"places of gains", places_of_gains},
     {"makers", makers},
     {"makers refused", makers_refused},
+    {"first faults", first_faults},
     {"tables refused", tables_refused},
     {"a session", a_session},
     {"uploads", uploads},
@@ -898,6 +1041,7 @@ static const struct group groups[] = {
     {"strange blends", strange_blends},
     {"bad arguments", bad_arguments},
     {"words", words},
+    {"lines", lines},
     {"version", version},
 };
 

@@ -270,6 +270,17 @@ static size_t any_packet(uint8_t *packet, size_t room)
     return one_in(16) ? below(length + 2) : length;
 }
 
+/* Whether a refusal of a packet has nothing in its upper half but a place, below the most there can be, and that with
+ * 10 alone. */
+static bool right_place(uint64_t answer, size_t most)
+{
+    if (VERMOLGAS_STATUS(answer) == VERMOLGAS_ACCEPTED)
+        return true;
+    if (VERMOLGAS_STATUS(answer) == VERMOLGAS_REFUSED_RANGE && VERMOLGAS_FAULT_PLACE(answer) >= most)
+        return false;
+    return answer >> 32 == (VERMOLGAS_STATUS(answer) == VERMOLGAS_REFUSED_RANGE ? VERMOLGAS_FAULT_PLACE(answer) : 0);
+}
+
 static uint64_t call_reset(void)
 {
     lend_kept(0, block, sizeof block);
@@ -313,7 +324,7 @@ static void try_packet(bool *accepted)
                                        buffers[4].bytes, buffers[4].length, buffers[5].bytes, buffers[5].length);
 
     *accepted = VERMOLGAS_STATUS(answer) == VERMOLGAS_ACCEPTED;
-    CHECK(VERMOLGAS_PACKET_REPLY_LENGTH(answer) <= buffers[5].length);
+    CHECK(VERMOLGAS_PACKET_REPLY_LENGTH(answer) <= buffers[5].length && right_place(answer, buffers[0].length));
     CHECK(unchanged_from(0, 0) && unchanged_from(5, VERMOLGAS_PACKET_REPLY_LENGTH(answer)));
     for (int part = 1; part < 5; part++)
         CHECK(*accepted || unchanged_from(part, 0));
@@ -330,8 +341,9 @@ static void try_read(bool *accepted)
 {
     uint8_t packet[VERMOLGAS_LONGEST + 100] = {0};
     lend_bytes(0, packet, any_packet(packet, sizeof packet));
-    *accepted = VERMOLGAS_STATUS(vermolgas_read(buffers[0].bytes, buffers[0].length)) == VERMOLGAS_ACCEPTED;
-    CHECK(unchanged_from(0, 0));
+    uint64_t answer = vermolgas_read(buffers[0].bytes, buffers[0].length);
+    *accepted = VERMOLGAS_STATUS(answer) == VERMOLGAS_ACCEPTED;
+    CHECK(unchanged_from(0, 0) && right_place(answer, buffers[0].length));
 }
 
 static void try_make(bool *accepted)
@@ -343,7 +355,7 @@ static void try_make(bool *accepted)
                                    buffers[1].bytes, buffers[1].length);
     *accepted = VERMOLGAS_STATUS(made) == VERMOLGAS_ACCEPTED;
     CHECK(unchanged_from(0, 0) && unchanged_from(1, VERMOLGAS_MAKE_LENGTH(made)));
-    CHECK(*accepted == (VERMOLGAS_MAKE_LENGTH(made) > 0));
+    CHECK(*accepted == (VERMOLGAS_MAKE_LENGTH(made) > 0) && right_place(made, command.length));
 }
 
 /* The last reply, now and then cut, or any bytes. */

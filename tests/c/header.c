@@ -29,6 +29,12 @@ static uint64_t replied(size_t length)
     return (uint64_t)length << 8;
 }
 
+/* The refusal of a packet whose data has its first fault here, without the length of a reply. */
+static uint64_t fault_at(size_t place)
+{
+    return VERMOLGAS_REFUSED_RANGE | (uint64_t)place << 32;
+}
+
 static void reset_controllers(void)
 {
     memset(&lent, 0xAA, sizeof lent);
@@ -397,13 +403,168 @@ static void refuse_pairs(void)
 
     CHECK(vermolgas_reset(LENT) == VERMOLGAS_ACCEPTED);
     CHECK(send(BYTES(0x14, 0x2B, 8, 0, 1, 4, 1, 0, 0, 0, 1, 0)) == VERMOLGAS_REFUSED_SIZE);
-    CHECK(send(BYTES(0x14, 0x2B, 14, 0, 1, 1, 4, 0, 0, 0, 1, 0, 5, 0, 0, 0, 5, 0)) == VERMOLGAS_REFUSED_RANGE);
-    CHECK(send(BYTES(0x14, 0x2B, 14, 0, 1, 1, 4, 0, 0, 0, 1, 0, 5, 0, 0xE1, 7, 5, 0)) == VERMOLGAS_REFUSED_RANGE);
-    CHECK(send(BYTES(0x14, 0x2B, 14, 0, 1, 1, 4, 0, 0, 0, 1, 0, 5, 0, 1, 0, 0, 0x20)) == VERMOLGAS_REFUSED_RANGE);
+    CHECK(send(BYTES(0x14, 0x2B, 14, 0, 1, 1, 4, 0, 0, 0, 1, 0, 5, 0, 0, 0, 5, 0)) == fault_at(10));
+    CHECK(send(BYTES(0x14, 0x2B, 14, 0, 1, 1, 4, 0, 0, 0, 1, 0, 5, 0, 0xE1, 7, 5, 0)) == fault_at(10));
+    CHECK(send(BYTES(0x14, 0x2B, 14, 0, 1, 1, 4, 0, 0, 0, 1, 0, 5, 0, 1, 0, 0, 0x20)) == fault_at(12));
     CHECK(send(BYTES(0x14, 0x2B, 10, 0, 1, 1, 2, 0, 1, 0, 0xE0, 7, 5, 0)) == VERMOLGAS_REFUSED_PAST_TABLE);
     CHECK(send(BYTES(0x14, 0x2B, 10, 0, 1, 1, 2, 0, 0xFF, 0xFF, 1, 0, 5, 0)) == VERMOLGAS_REFUSED_PAST_TABLE);
-    CHECK(VERMOLGAS_STATUS(send(example, sizeof example)) == VERMOLGAS_REFUSED_RANGE);
+    CHECK(send(example, sizeof example) == (fault_at(10) | replied(5)));
+    CHECK(memcmp(lent.reply, (const uint8_t[]){0x0A, 0x02, 0x00, 10, 0}, 5) == 0);
     CHECK(lent.gains[0] == 0x00 && lent.gains[1] == 0x10);
+}
+
+/* Writes a packet with a length field, field by field, and gives its length. */
+static size_t write_packet(uint8_t *packet, uint8_t options, uint8_t opcode, const uint8_t *data, size_t length)
+{
+    size_t at = 0;
+    packet[at++] = 4 | VERMOLGAS_OPTION_LENGTH | options;
+    packet[at++] = opcode;
+    if (options & VERMOLGAS_OPTION_TWO_BYTE_OPCODE)
+        packet[at++] = 0;
+    packet[at++] = (uint8_t)length;
+    packet[at++] = (uint8_t)(length >> 8);
+    memcpy(packet + at, data, length);
+    at += length;
+    if (options & VERMOLGAS_OPTION_CHECKSUM) {
+        packet[at] = checksum_of(packet, at);
+        at++;
+    }
+    return at;
+}
+
+/* Whether the reply is one of status 10 with this place, as the options ask for it. */
+static bool tells(size_t length, size_t place, uint8_t options)
+{
+    const uint8_t due[] = {0x0A, 0x02, 0x00, (uint8_t)place, (uint8_t)(place >> 8)};
+    bool checksum = options & VERMOLGAS_OPTION_CHECKSUM;
+    if (!(options & (VERMOLGAS_OPTION_REPLY | VERMOLGAS_OPTION_READ)))
+        return length == 0;
+    return length == sizeof due + checksum && memcmp(lent.reply, due, sizeof due) == 0 &&
+           (!checksum || lent.reply[sizeof due] == checksum_of(due, sizeof due));
+}
+
+/* Data with its first fault at this place: made, read and sent in eight frames, by a write or a read. */
+static void find_fault(size_t place, uint8_t opcode, uint8_t read, const uint8_t *data, size_t length)
+{
+    for (unsigned bits = 0; bits < 8; bits++) {
+        uint8_t packet[VERMOLGAS_LONGEST], options = (uint8_t)((bits & 1) << 3 | (bits & 6) << 4 | read);
+        size_t packet_length = write_packet(packet, options, opcode, data, length);
+        uint64_t answer = send(packet, packet_length);
+        size_t reply_length = VERMOLGAS_PACKET_REPLY_LENGTH(answer);
+        CHECK(VERMOLGAS_STATUS(answer) == VERMOLGAS_REFUSED_RANGE && VERMOLGAS_FAULT_PLACE(answer) == place);
+        CHECK(answer == (fault_at(place) | replied(reply_length)) && tells(reply_length, place, options));
+        CHECK(vermolgas_read(packet, packet_length) == fault_at(place));
+        answer = vermolgas_make(opcode, options | VERMOLGAS_OPTION_LENGTH, data, length, packet, sizeof packet);
+        CHECK(answer == fault_at(place) && VERMOLGAS_FAULT_PLACE(answer) == place);
+    }
+}
+
+/* Each field of each command, by hand. */
+static void find_faults(void)
+{
+    uint8_t uart[11] = {2, 1, 11, 3, 1, 2, 1, 4, 4, 1, 1};
+
+    CHECK(vermolgas_reset(LENT) == VERMOLGAS_ACCEPTED);
+    find_fault(0, VERMOLGAS_OP_DISPLAY, 0, BYTES(5));
+    find_fault(0, VERMOLGAS_OP_LOW_LATENCY, 0, BYTES(2));
+    find_fault(0, VERMOLGAS_OP_CURTAIN, 0, BYTES(1));
+    find_fault(0, VERMOLGAS_OP_FLIP, 0, BYTES(4));
+    find_fault(0, VERMOLGAS_OP_FREEZE, 0, BYTES(2));
+    find_fault(0, VERMOLGAS_OP_APPLY_WARPING, 0, BYTES(2));
+    find_fault(0, VERMOLGAS_OP_UPDATE_MODE, 0, BYTES(2));
+    find_fault(0, VERMOLGAS_OP_EEPROM_LOCK, 0, BYTES(2));
+    find_fault(0, VERMOLGAS_OP_GPIO_PIN_CONFIG, 0, BYTES(88, 2, 2, 2));
+    find_fault(1, VERMOLGAS_OP_GPIO_PIN_CONFIG, 0, BYTES(87, 2, 2, 2));
+    find_fault(2, VERMOLGAS_OP_GPIO_PIN_CONFIG, 0, BYTES(87, 1, 2, 2));
+    find_fault(3, VERMOLGAS_OP_GPIO_PIN_CONFIG, 0, BYTES(87, 1, 1, 2));
+    find_fault(0, VERMOLGAS_OP_GPIO_PIN, 0, BYTES(88, 2));
+    find_fault(1, VERMOLGAS_OP_GPIO_PIN, 0, BYTES(87, 2));
+    find_fault(0, VERMOLGAS_OP_PWM_OUTPUT, 0, BYTES(11, 19, 0, 0, 0, 101, 2));
+    find_fault(1, VERMOLGAS_OP_PWM_OUTPUT, 0, BYTES(13, 19, 0, 0, 0, 101, 2));
+    find_fault(1, VERMOLGAS_OP_PWM_OUTPUT, 0, BYTES(13, 20, 0, 0, 1, 100, 1));
+    find_fault(5, VERMOLGAS_OP_PWM_OUTPUT, 0, BYTES(13, 20, 0, 0, 0, 101, 2));
+    find_fault(6, VERMOLGAS_OP_PWM_OUTPUT, 0, BYTES(13, 20, 0, 0, 0, 100, 2));
+    for (size_t field = sizeof uart; field-- > 0;) {
+        uart[field]++; /* each takes what stands here, and no more; those behind are at fault already */
+        find_fault(field, VERMOLGAS_OP_UART, 0, uart, sizeof uart);
+    }
+    find_fault(0, VERMOLGAS_OP_SMOOTH_WARP_TABLE, 0, BYTES(2, 6));
+    find_fault(1, VERMOLGAS_OP_SMOOTH_WARP_TABLE, 0, BYTES(5, 6));
+    find_fault(0, VERMOLGAS_OP_GPIO_PIN_CONFIG, VERMOLGAS_OPTION_READ, BYTES(88));
+    find_fault(0, VERMOLGAS_OP_GPIO_PIN, VERMOLGAS_OPTION_READ, BYTES(88));
+    find_fault(0, VERMOLGAS_OP_PWM_OUTPUT, VERMOLGAS_OPTION_READ, BYTES(12));
+    find_fault(0, VERMOLGAS_OP_UART, VERMOLGAS_OPTION_READ, BYTES(3));
+    find_fault(2, VERMOLGAS_OP_WARP_TABLE, VERMOLGAS_OPTION_READ, BYTES(0xFF, 0xFF, 128, 0));
+    find_fault(0, VERMOLGAS_OP_GAINS, VERMOLGAS_OPTION_READ, BYTES(0, 0, 0, 255, 0));
+    find_fault(3, VERMOLGAS_OP_GAINS, VERMOLGAS_OPTION_READ, BYTES(3, 0, 0, 255, 0));
+}
+
+/* Control points: mode, columns, rows, and each entry that has one before it in its list. */
+static void find_entries(void)
+{
+    uint8_t lists[1 + 2 * 94] = {VERMOLGAS_CONTROL_POINTS_LISTED};
+
+    CHECK(vermolgas_reset(LENT) == VERMOLGAS_ACCEPTED);
+    find_fault(0, VERMOLGAS_OP_CONTROL_POINTS, 0, BYTES(2));
+    find_fault(0, VERMOLGAS_OP_CONTROL_POINTS, 0, BYTES(2, 1, 0, 1, 0));
+    find_fault(1, VERMOLGAS_OP_CONTROL_POINTS, 0, BYTES(0, 63, 0, 33, 0));
+    find_fault(1, VERMOLGAS_OP_CONTROL_POINTS, 0, BYTES(0, 62, 1, 32, 0));
+    find_fault(3, VERMOLGAS_OP_CONTROL_POINTS, 0, BYTES(0, 62, 0, 33, 0));
+    find_fault(3, VERMOLGAS_OP_CONTROL_POINTS, 0, lists, sizeof lists); /* all entries are 0 */
+    for (size_t entry = 0; entry < 94; entry++)
+        lists[1 + 2 * entry] = (uint8_t)(entry < 62 ? entry : entry - 62);
+    for (size_t entry = 1; entry < 94; entry++) {
+        if (entry == 62)
+            continue;
+        lists[1 + 2 * entry]--;
+        find_fault(1 + 2 * entry, VERMOLGAS_OP_CONTROL_POINTS, 0, lists, sizeof lists);
+        lists[1 + 2 * entry]++;
+    }
+}
+
+/* Gains: flag, colour, count, and each word, by itself and in pairs. */
+static void find_words(void)
+{
+    uint8_t data[6 + 2 * 250] = {0, 0, 250};
+
+    CHECK(vermolgas_reset(LENT) == VERMOLGAS_ACCEPTED);
+    find_fault(0, VERMOLGAS_OP_GAINS, 0, BYTES(2, 4, 0, 0, 0, 0));
+    find_fault(1, VERMOLGAS_OP_GAINS, 0, BYTES(1, 4, 0, 0, 0, 0));
+    find_fault(2, VERMOLGAS_OP_GAINS, 0, BYTES(1, 3, 0, 0, 0xFF, 0xFF));
+    for (size_t word = 0; word < 250; word++) {
+        data[6 + 2 * word + 1] = 0x20;
+        find_fault(6 + 2 * word, VERMOLGAS_OP_GAINS, 0, data, sizeof data);
+        data[6 + 2 * word + 1] = 0;
+    }
+    data[0] = VERMOLGAS_GAINS_COMPRESSED;
+    for (size_t word = 0; word < 250; word += 2)
+        data[6 + 2 * word] = 1; /* a run */
+    for (size_t word = 0; word < 250; word++) {
+        data[6 + 2 * word + 1] = 0x20; /* a run, or a gain, that is too large */
+        find_fault(6 + 2 * word, VERMOLGAS_OP_GAINS, 0, data, sizeof data);
+        data[6 + 2 * word + 1] = 0;
+    }
+    data[6 + 2 * 100] = 0; /* a run of 0, and a gain behind it */
+    data[6 + 2 * 101 + 1] = 0xFF;
+    find_fault(6 + 2 * 100, VERMOLGAS_OP_GAINS, 0, data, sizeof data);
+}
+
+/* Other refusals have no place, and no data in their reply, whatever their values. */
+static void miss_faults(void)
+{
+    CHECK(vermolgas_reset(LENT) == VERMOLGAS_ACCEPTED);
+    CHECK(VERMOLGAS_FAULT_PLACE(vermolgas_read(BYTES(0x14, 0x2B, 8, 0, 0, 4, 2, 0, 0, 0, 0, 0x20))) == 0);
+    CHECK(vermolgas_read(BYTES(0x04, 0x6D, 0x00, 0x02, 0x0C)) == VERMOLGAS_REFUSED_SIZE);
+    CHECK(vermolgas_read(BYTES(0x04, 0x2B, 0x00, 0x04)) == VERMOLGAS_REFUSED_LENGTH_MISSING);
+    CHECK(send(BYTES(0x44, 0x6D, 0x00, 0x02, 0x0C)) == (VERMOLGAS_REFUSED_SIZE | replied(3)));
+    CHECK(memcmp(lent.reply, (const uint8_t[]){0x09, 0x00, 0x00}, 3) == 0);
+    CHECK(send(BYTES(0x44, 0x39, 0x01)) == (VERMOLGAS_REFUSED_NOT_CARRIED | replied(3)));
+    CHECK(send(BYTES(0x84, 0x34, 0xC0, 0x07, 0x01, 0x00)) == (VERMOLGAS_REFUSED_PAST_TABLE | replied(3)));
+
+    /* Of an accepted packet reading has the length of the data there. */
+    uint64_t read = vermolgas_read(BYTES(0x04, 0x60, 0x01, 0x01, 0x01, 0x01));
+    CHECK(VERMOLGAS_STATUS(read) == VERMOLGAS_ACCEPTED && VERMOLGAS_READ_LENGTH(read) == 4);
+    CHECK(VERMOLGAS_FAULT_PLACE(send(BYTES(0x84, 0x60, 0x01))) == 0);
 }
 
 /* What compressing and splitting write. */
@@ -536,8 +697,9 @@ static const struct group groups[] = {
     {"reading", read_packets},        {"reading refused", refuse_packets}, {"making", make_packets},
     {"replies", read_replies},        {"checksums", compare_checksums},    {"plans", plan_uploads},
     {"room and choices", fill_rooms}, {"plans refused", refuse_plans},     {"pairs", send_pairs},
-    {"pairs refused", refuse_pairs},  {"compressing", compress_gains},     {"compressing refused", refuse_gains},
-    {"splitting", split_pairs},       {"splitting refused", refuse_splits},
+    {"pairs refused", refuse_pairs},  {"fields at fault", find_faults},    {"entries at fault", find_entries},
+    {"words at fault", find_words},   {"no place", miss_faults},           {"compressing", compress_gains},
+    {"compressing refused", refuse_gains}, {"splitting", split_pairs},     {"splitting refused", refuse_splits},
 };
 
 int main(void)

@@ -32,6 +32,7 @@ void mistakes(void)
     vermolgas_compress(NULL, 0, NULL, 0);                                      /* caught */
     vermolgas_split(1, 0, NULL, 0, NULL, 0);                                   /* caught */
     vermolgas_refusal_text(1);                                                 /* caught */
+    vermolgas_refusal_line(NULL, 0, 10, 5);                                    /* caught */
     vermolgas_device_reset(&device);                                           /* caught */
     vermolgas_device_send(&device, bytes, 3, &reply);                          /* caught */
     vermolgas_reply_read(&reply, 3, false);                                    /* caught */
@@ -71,6 +72,8 @@ void mistakes(void)
     int narrow = VERMOLGAS_CAST(int, answer);
     bytes[0] = VERMOLGAS_STATUS(narrow) == 1;                                  /* caught */
     bytes[0] = VERMOLGAS_READ_LENGTH(VERMOLGAS_STATUS(answer)) == 1;           /* caught */
+    bytes[0] = VERMOLGAS_FAULT_PLACE(narrow) == 1;                             /* caught */
+    bytes[0] = VERMOLGAS_FAULT_PLACE(VERMOLGAS_STATUS(answer)) == 1;           /* caught */
     bytes[0] = VERMOLGAS_COMPRESS_PAIRS(narrow) == 1;                          /* caught */
     bytes[0] = VERMOLGAS_SPLIT_BYTES(narrow) == 1;                             /* caught */
     bytes[0] = VERMOLGAS_READ_LENGTH(answer) == 1;

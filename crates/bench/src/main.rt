@@ -2,6 +2,7 @@
 // the bench maps, and compresses and splits gains.
 use packet::Reading;
 use planning::Answer;
+use wire::Refusal;
 ghost use Prim.Native.Nat.{_<_};
 ghost use lib.ListN.{length};
 
@@ -30,6 +31,7 @@ fn main() {
     present(b"\x14\x34\x06\x00\xC0\x07\x01\x00\x02\x00");
     present(b"\x14\x2B\x08\x00\x00\x01\x01\x00\xDF\x07\x00\x14");
     present_pairs();
+    present_faults();
     // Points 0 and 2 differ; points 0 and 3 differ.
     present_plan(&[0, 0, 0, 0, 0, 0, 0, 0], &[1, 2, 0, 0, 3, 4, 0, 0]);
     present_plan(&[0, 0, 0, 0, 0, 0, 0, 0], &[1, 2, 0, 0, 0, 0, 3, 4]);
@@ -43,6 +45,12 @@ fn main() {
     present_refusals(
         b"\x00\x00\x08\x00\x08\x00\x80\x0f\x7f\x00\xc0\x07\x60\x1f\xc1\x07\x08\x00\x08\x00\x80\x0f\x7f\x00\xc0\x07\x60\x1f\x03\x00\x08\x00\x08\x00\x80\x0f\x7f\x00\xc0\x07\x60\x1f\x04\x00\x07\x00\x08\x00\x80\x0f\x7f\x00\xc0\x07\x60\x1f\x04\x00\x09\x00\x08\x00\x80\x0f\x7f\x00\xc0\x07\x60\x1f\x04\x00\x08\x00\x07\x00\x80\x0f\x7f\x00\xc0\x07\x60\x1f\x04\x00\x08\x00\x09\x00\x80\x0f\x7f\x00\xc0\x07\x60\x1f\x04\x00\x08\x00\x08\x00\x7f\x0f\x7f\x00\xc0\x07\x60\x1f\x04\x00\x08\x00\x08\x00\x81\x0f\x7f\x00\xc0\x07\x60\x1f\x04\x00\x08\x00\x08\x00\x80\x0f\x7e\x00\xc0\x07\x60\x1f\x04\x00\x08\x00\x08\x00\x80\x0f\x7f\x00\xbf\x07\x60\x1f\x04\x00\x08\x00\x08\x00\x80\x0f\x7f\x00\xc0\x07\x5f\x1f\x04\x00\x08\x00\x08\x00\x80\x0f\x7f\x00\xc0\x07\x60\x1f\x04\x00\x08\x00\x08\x00\x80\x0f\x80\x00\xc1\x07\x61\x1f",
     );
+}
+
+// Two faults, of which the first is named: a UART of baud 12 and parity 3. A read of pin 88.
+fn present_faults() {
+    present(b"\x64\x6D\x00\x01\x0C\x03\x00\x03\x00\x00\x00\x00\x00\xD0");
+    present(b"\x84\x60\x58");
 }
 
 // The bench packets of compressed gains.
@@ -263,8 +271,7 @@ fn present(bytes: &[u8]) {
         size,
     } = r
     else {
-        print_number(b"\n  refused ", r.refusal().number as u64);
-        io::write_all(1, b"\n");
+        print_refusal(r.refusal());
         return;
     };
     print_byte(b"\n  opcode ", opcode);
@@ -273,9 +280,17 @@ fn present(bytes: &[u8]) {
     print_number(b", size ", size as u64);
     let mut buffer = [0u8; 512];
     let made = packet::make(opcode as u16, options, &bytes[at..at + size], &mut buffer);
-    print_number(b"\n  made again, status ", made.status as u64);
+    print_number(b"\n  made again, status ", made.why.number as u64);
     io::write_all(1, b":");
     show::bytes(&buffer, made.size);
+    io::write_all(1, b"\n");
+}
+
+fn print_refusal(why: Refusal) {
+    print_number(b"\n  refused ", why.number as u64);
+    if why.number == 10 {
+        print_number(b", at data byte ", why.fault as u64);
+    }
     io::write_all(1, b"\n");
 }
 

@@ -26,8 +26,9 @@ use Rattle.opcode.proofs.Accepts.Reads.{silent-read}
 use Rattle.opcode.proofs.Accepts.Writes.{silent-write}
 use Rattle.packet.specs.Frame.{headerOf, opcodeOf, place, fields, dataSize, dataOf}
 use Rattle.packet.specs.Points.{startOf, countOf}
-use Rattle.packet.specs.Reading.{Answer, refusals, commandAt, refusedBy, answered, reading}
+use Rattle.packet.specs.Reading.{Answer, refusals, faultOf, commandAt, refusedBy, answered, reading}
 use Rattle.packet.proofs.Frames.{standing}
+use Rattle.packet.proofs.Within.{fault-small}
 use Rattle.settings.specs.Layout.{updatePlace}
 use Rattle.settings.specs.Layout.{columnsAt, rowsAt, stagedShape, enable, liveShape, smoothTable}
 use Rattle.settings.specs.Ranges.{right, fieldsOf, pictureFields, deviceFields, shapeRight, settingsRight}
@@ -61,22 +62,22 @@ pub placed-number : (p block : List ℕ) → Number (first (readAndPlaced p bloc
 unfolding judgement
 placed-number p block = first-number (readAndPlaced p block) (omega arith)
 
--- ---- An answer is a command exactly if its number is 0: a refusal has no place, and data is never at place 0.
+-- ---- An answer is a command exactly if its number is 0: a refusal has no data, and data is never at place 0.
 
 command-zero : (n : ℕ) (p : List ℕ) (op o at size : ℕ) → commandAt op o at size ≡ answered n p → (n ≡ 0) × (commandAt op o at size ≡ standing p)
 command-zero n p op o at size h = go (eqb n 0) refl h
   where
-    go : (b : Bool) → eqb n 0 ≡ b → commandAt op o at size ≡ cond b (standing p) (refusedBy n)
+    go : (b : Bool) → eqb n 0 ≡ b → commandAt op o at size ≡ cond b (standing p) (refusedBy n (faultOf n p))
         → (n ≡ 0) × (commandAt op o at size ≡ standing p)
     go true e s = (eqb-true n 0 e, s)
     go false e s = absurd (eqb-false n 0 e (sym (ap (λ (a : Answer). a .number) s)))
 
-refused-some : (n m : ℕ) (p : List ℕ) → refusedBy m ≡ answered n p → (n ≡ m) × (eqb n 0 ≡ false)
-refused-some n m p h = go (eqb n 0) refl h
+refused-some : (n m f : ℕ) (p : List ℕ) → refusedBy m f ≡ answered n p → (n ≡ m) × (f ≡ faultOf n p) × (eqb n 0 ≡ false)
+refused-some n m f p h = go (eqb n 0) refl h
   where
-    go : (b : Bool) → eqb n 0 ≡ b → refusedBy m ≡ cond b (standing p) (refusedBy n) → (n ≡ m) × (eqb n 0 ≡ false)
+    go : (b : Bool) → eqb n 0 ≡ b → refusedBy m f ≡ cond b (standing p) (refusedBy n (faultOf n p)) → (n ≡ m) × (f ≡ faultOf n p) × (eqb n 0 ≡ false)
     go true e s = let z = ap (λ (a : Answer). a .place) s in absurd (omega arith)
-    go false e s = (sym (ap (λ (a : Answer). a .number) s), e)
+    go false e s = (sym (ap (λ (a : Answer). a .number) s), ap (λ (a : Answer). a .fault) s, e)
 
 -- Options say what the header says.
 read-options : (h o : ℕ) → o ≡ optionsIn h → isRead o ≡ isRead h
@@ -85,11 +86,11 @@ read-options h o e = omega arith
 -- ---- From reading to the decision.
 
 -- A refusal of reading stands.
-pub refusal-stands : (p block : List ℕ) (n : ℕ) → refusedBy n ≡ reading p → refusedBy n ≡ decision p block
+pub refusal-stands : (p block : List ℕ) (n f : ℕ) → refusedBy n f ≡ reading p → refusedBy n f ≡ decision p block
 unfolding reading decision
-refusal-stands p block n h =
-    let some = refused-some (first (refusals p)) n p h in
-    let same : first (readAndPlaced p block) ≡ first (refusals p) = placed-first p block ∙ rw (some .1) in
+refusal-stands p block n f h =
+    let some = refused-some (first (refusals p)) n f p h in
+    let same : first (readAndPlaced p block) ≡ first (refusals p) = placed-first p block ∙ rw (some .2) in
     h ∙ ap (λ (k : ℕ). answered k p) (sym same)
 
 -- A command stands unless it runs past its table.
@@ -99,7 +100,7 @@ same-past p block op o d e f g = rw (e, f, g)
 
 pub command-placed : (p block : List ℕ) (op o at size : ℕ) (past : Bool) → commandAt op o at size ≡ reading p
     → past ≡ runsPast op (eqb (isRead o) 1) (take (at + size - at) (drop at p)) block
-    → cond past (refusedBy 12) (commandAt op o at size) ≡ decision p block
+    → cond past (refusedBy 12 0) (commandAt op o at size) ≡ decision p block
 unfolding reading decision
 command-placed p block op o at size past h e =
     let z = command-zero (first (refusals p)) p op o at size h in
@@ -114,7 +115,7 @@ command-placed p block op o at size past h e =
     let number : first (readAndPlaced p block) ≡ cond past 12 0 = placed-first p block ∙ rw (z .0, told) in
     go past (z .1) ∙ ap (λ (k : ℕ). answered k p) (sym number)
   where
-    go : (b : Bool) → commandAt op o at size ≡ standing p → cond b (refusedBy 12) (commandAt op o at size) ≡ answered (cond b 12 0) p
+    go : (b : Bool) → commandAt op o at size ≡ standing p → cond b (refusedBy 12 0) (commandAt op o at size) ≡ answered (cond b 12 0) p
     go true s = refl
     go false s = s
 
@@ -177,16 +178,33 @@ commanded p block op o at size h =
       within = same-past p block op o (dataOf p) same-opcode same-read refl ∙ none .1;
     }
 
--- A refusal: its number is the packet's, and not 0.
-pub record Refusing (p block : List ℕ) (n : ℕ) : Type 0 where
+-- A refusal: its number is the packet's, and not 0, and its place is that of the number.
+pub record Refusing (p block : List ℕ) (n f : ℕ) : Type 0 where
   pub number : first (readAndPlaced p block) ≡ n
   pub some : 0 < n
+  pub fault : f ≡ faultOf n p
 
-pub refused : (p block : List ℕ) (n : ℕ) → refusedBy n ≡ decision p block → Refusing p block n
+pub refused : (p block : List ℕ) (n f : ℕ) → refusedBy n f ≡ decision p block → Refusing p block n f
 unfolding decision
-refused p block n h =
-    let some = refused-some (first (readAndPlaced p block)) n p h in
-    record { number = some .0; some = omega (arith, eqb-false (first (readAndPlaced p block)) 0 (some .1)) }
+refused p block n f h =
+    let some = refused-some (first (readAndPlaced p block)) n f p h in
+    record {
+      number = some .0;
+      some = omega (arith, eqb-false (first (readAndPlaced p block)) 0 (some .2));
+      fault = some .1 ∙ ap (λ (n : ℕ). faultOf n p) (some .0);
+    }
+
+-- Its place lies within the packet, and so fits two bytes, as a command's does, which is 0.
+pub placed-fault : (p block : List ℕ) → faultOf (first (readAndPlaced p block)) p < 512
+placed-fault p block = fault-small p ((12, runsPast (opcodeOf p) (reads p) (dataOf p) block) ∷ []) _ (omega arith) refl
+
+pub decision-fault : (p block : List ℕ) {a : Answer} → a ≡ decision p block → a .fault < 65536
+unfolding decision
+decision-fault p block same = rw same (go (eqb (first (readAndPlaced p block)) 0) refl)
+  where
+    go : (b : Bool) → eqb (first (readAndPlaced p block)) 0 ≡ b → answered (first (readAndPlaced p block)) p .fault < 65536
+    go true e = rw e (omega arith)
+    go false e = rw e (omega (arith, placed-fault p block))
 
 -- ---- Settings in their ranges.
 

@@ -21,15 +21,15 @@ use Rattle.opcode.specs.Judgement.{judgement}
 use Rattle.wire.proofs.Tests.{told, Silent, Numbered, silent-first, first-silent, first-left, first-right}
 use Rattle.reply.specs.Reply.{replyBytes}
 use Rattle.packet.specs.Frame.{headerOf, opcodeOf, dataOf}
-use Rattle.packet.specs.Reading.{refusals}
-use Rattle.packet.proofs.Frames.{reading-number}
+use Rattle.packet.specs.Reading.{refusals, faultOf}
+use Rattle.packet.proofs.Frames.{reading-number, reading-fault}
 use Rattle.packet.proofs.Exactly.{exactly}
 use Rattle.settings.specs.Ranges.{settingsRight}
 use Rattle.settings.proofs.Allowed.{settings-exactly, reset-allowed}
 use Rattle.settings.proofs.AfterReset.{reset-bytes, reset-points, reset-gains}
 use Rattle.controller.specs.State.{State, lengthsRight, stopped, ResetOut, reset, replyRoom}
 use Rattle.controller.specs.Commands.{runsPast}
-use Rattle.controller.specs.Step.{reads, readAndPlaced, decision, stepRefusals, numberOf, emptyReply, replyTo, Out, out, step}
+use Rattle.controller.specs.Step.{reads, readAndPlaced, decision, stepRefusals, numberOf, statusReply, replyTo, Out, out, step}
 use Rattle.controller.specs.Demands.{StateLent, LentRight, Demand1, Demand2, Placed, Accepted, Resets}
 use Rattle.controller.proofs.Effects.{leaves, returns, some-left, some-returned, written-data, read-data}
 use Rattle.controller.proofs.Bounds.{placed-number}
@@ -178,7 +178,8 @@ demand1 p s reply =
       number = refl;
       one = (λ e l. placed-number p (s .block) .not-1 (sym (running l) ∙ e), λ wrong. ap (λ (o : Out). o .status) (halted wrong));
       from-reading = λ l some.
-          running l ∙ first-left (refusals p) (tests p s) (λ e. some (reading-number p ∙ e)) ∙ sym (reading-number p);
+          let same = running l ∙ first-left (refusals p) (tests p s) (λ e. some (reading-number p ∙ e)) in
+          (same ∙ sym (reading-number p), ap (λ (n : ℕ). faultOf n p) same ∙ sym (reading-fault p));
       twelve = λ l none past.
           running l
           ∙ first-right (refusals p) (tests p s) (first-silent (refusals p) (refusals-numbered p) (sym (reading-number p) ∙ none))
@@ -194,10 +195,10 @@ demand1 p s reply =
     running : LentRight s reply → first (stepRefusals p s reply) ≡ first (readAndPlaced p (s .block))
     running l = rw (runs s reply (right-running l))
 
-    halted : (LentRight s reply → ⊥) → step p s reply ≡ out 1 0 s reply
+    halted : (LentRight s reply → ⊥) → step p s reply ≡ out 1 0 0 s reply
     halted wrong = go (stopped s reply) refl
       where
-        go : (b : Bool) → stopped s reply ≡ b → step p s reply ≡ out 1 0 s reply
+        go : (b : Bool) → stopped s reply ≡ b → step p s reply ≡ out 1 0 0 s reply
         go true e = step-stopped p s reply e
         go false e = absurd (wrong (running-right (lent s reply e)))
 
@@ -232,7 +233,7 @@ demand2 p bytes s reply =
             by = some .by;
             answer =
                 step-written p s reply (d .0) (d .1) (ne-eqb (isRead (headerOf p)) 1 (omega arith))
-                ∙ ap (λ (t : State). out 0 (length (emptyReply 0 p)) t (over (emptyReply 0 p) reply)) (leaves (some .by));
+                ∙ ap (λ (t : State). out 0 0 (length (statusReply 0 0 p)) t (over (statusReply 0 0 p) reply)) (leaves (some .by));
           };
       returns = λ a r.
           let d = decided p s reply (accepted-exactly p bytes s reply .1 a) in
@@ -242,7 +243,7 @@ demand2 p bytes s reply =
             by = some .by;
             answer =
                 step-read p s reply (d .0) (d .1) (eq-eqb (isRead (headerOf p)) 1 r)
-                ∙ ap (λ (back : List ℕ). out 0 (length (replyBytes (eqb (hasSum (headerOf p)) 1) 0 back)) s (over (replyBytes (eqb (hasSum (headerOf p)) 1) 0 back) reply)) (returns (some .by));
+                ∙ ap (λ (back : List ℕ). out 0 0 (length (replyBytes (eqb (hasSum (headerOf p)) 1) 0 back)) s (over (replyBytes (eqb (hasSum (headerOf p)) 1) 0 back) reply)) (returns (some .by));
           };
     }
 

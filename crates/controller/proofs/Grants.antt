@@ -19,7 +19,7 @@ use Rattle.packet.specs.Frame.{headerOf}
 use Rattle.packet.specs.Reading.{Answer, commandAt, refusedBy}
 use Rattle.controller.specs.State.{State, state, stopped}
 use Rattle.controller.specs.Commands.{third, gainsColour, gainsStart, gainsPlace, gainsWords, gainsSent, gainsInto, colourInto, writeGains, written, dataBack}
-use Rattle.controller.specs.Step.{reads, decision, emptyReply, readReply, out, step}
+use Rattle.controller.specs.Step.{reads, decision, statusReply, readReply, out, step}
 use Rattle.controller.specs.Internal.{Granted, PointsWrite, PointsRead, GainsWrite, GainsRead}
 use Rattle.controller.proofs.Bounds.{points-write, points-read, gains-write, gains-read, commanded, refused}
 use Rattle.controller.proofs.Steps.{step-refused, step-read, step-written}
@@ -86,12 +86,12 @@ same-sum h o e = omega arith
 
 module _ (p : List ℕ) (s : State) (reply : List ℕ) (runs : stopped s reply ≡ false) where
   -- A refusal's reply, as its step: its number is not 0.
-  pub answers-refusal : {n status size : ℕ} {answer : List ℕ} → refusedBy n ≡ decision p (s .block)
-      → (status ≡ n) × Overwrites size (emptyReply n p) reply answer → out status size s answer ≡ step p s reply
-  answers-refusal {n} told e =
-      let some = refused p (s .block) n told .some in
-      rw (e .0, e .1 .0, e .1 .1)
-      (sym (step-refused p s reply runs n (λ z. omega arith) (sym (ap (λ (a : Answer). a .number) told))))
+  pub answers-refusal : {n f status fault size : ℕ} {answer : List ℕ} → refusedBy n f ≡ decision p (s .block)
+      → (status ≡ n) × (fault ≡ f) × Overwrites size (statusReply n f p) reply answer → out status fault size s answer ≡ step p s reply
+  answers-refusal {n} {f} told e =
+      let r = refused p (s .block) n f told in
+      rw (e .0, e .1, e .2 .0, e .2 .1, r .fault)
+      (sym (step-refused p s reply runs n (λ z. omega (arith, r .some)) (sym (ap (λ (a : Answer). a .number) told))))
 
   -- The command that a decision gives, on the part of the packet that holds its data.
   module _ (op o at size : ℕ) (told : commandAt op o at size ≡ decision p (s .block)) where
@@ -110,7 +110,7 @@ module _ (p : List ℕ) (s : State) (reply : List ℕ) (runs : stopped s reply �
     -- A read's reply, which does not look at the live map, and a write's, as its step.
     pub answers-read : {n : ℕ} {answer : List ℕ} → isRead o ≡ 1
         → Overwrites n (readReply op o (take (at + size - at) (drop at p)) (withoutLive s)) reply answer
-        → out 0 n s answer ≡ step p s reply
+        → out 0 0 n s answer ≡ step p s reply
     unfolding dataBack
     answers-read r e =
         let c = commanded p (s .block) op o at size told in
@@ -118,7 +118,7 @@ module _ (p : List ℕ) (s : State) (reply : List ℕ) (runs : stopped s reply �
         rw (e .0, e .1, c .same-part, c .same-opcode, same-sum (headerOf p) o (c .same-options)) (sym (step-read p s reply runs accepted reads-it))
 
     pub stores-write : {n : ℕ} {s′ : State} {answer : List ℕ} → isRead o ≡ 0 → s′ ≡ written op (take (at + size - at) (drop at p)) s
-        → Overwrites n (emptyReply 0 p) reply answer → out 0 n s′ answer ≡ step p s reply
+        → Overwrites n (statusReply 0 0 p) reply answer → out 0 0 n s′ answer ≡ step p s reply
     stores-write r w e =
         let c = commanded p (s .block) op o at size told in
         let writes : reads p ≡ false = c .same-reads ∙ rw r in

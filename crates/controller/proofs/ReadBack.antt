@@ -11,7 +11,8 @@ use borrow.Author.Tests.{eq-eqb, ne-eqb, eqb-true, eqb-false, lt-ltb}
 use lib.ListN.{length, take, drop, length-take}
 use lib.Dec.{eqb}
 use Rattle.wire.specs.First.{first}
-use Rattle.wire.specs.Numbers.{byteAt, wordAt}
+use Rattle.wire.specs.Numbers.{byteAt, wordAt, wordBytes}
+use Rattle.wire.specs.Buffers.{over}
 use Rattle.wire.proofs.Laws.{take-over}
 use Rattle.wire.proofs.Tables.{length-halves}
 use Rattle.wire.proofs.Tests.{told}
@@ -19,6 +20,7 @@ use Rattle.opcode.specs.Options.{optionsIn, hasSum, asksReply, isRead}
 use Rattle.opcode.specs.Commands.{commandOf}
 use Rattle.opcode.specs.Judgement.{judgement}
 use Rattle.packet.specs.Frame.{headerOf, opcodeOf, dataOf}
+use Rattle.packet.specs.Reading.{faultOf}
 use Rattle.reply.specs.Reply.{replyBytes}
 use Rattle.reply.specs.Reading.{sumSize}
 use Rattle.reply.proofs.Laws.{length-reply}
@@ -29,7 +31,8 @@ use Rattle.controller.specs.State.{State, stopped, dataRoom, replyRoom}
 use Rattle.controller.specs.Commands.{readGains, readPoints, readShape, readSmooth, blockBack, dataBack, runsPast}
 use Rattle.controller.specs.Step.{reads, numberOf, answers, replyData, replyTo, step}
 use Rattle.controller.specs.Demands.{Asks, Replied}
-use Rattle.controller.proofs.Bounds.{counts, gains-read, points-read, placed-number}
+use Rattle.controller.proofs.Replies.{place-few}
+use Rattle.controller.proofs.Bounds.{counts, gains-read, points-read, placed-number, placed-fault}
 use Rattle.controller.proofs.Reach.{Kind, kindOf, other-back}
 use Rattle.controller.proofs.Sizes.{back-small}
 use Rattle.controller.proofs.Changes.{passed}
@@ -92,13 +95,13 @@ module _ (p : List ℕ) (s : State) (reply : List ℕ) where
       go true e = rw e (omega arith)
       go false e = rw e (placed-number p (s .block) .small)
 
-  data-small : length (replyData (numberOf p s reply) p s) ≤ dataRoom
+  data-small : length (replyData (numberOf p s reply) (faultOf (numberOf p s reply) p) p s) ≤ dataRoom
   data-small =
       elim (ℕ-discrete (numberOf p s reply) 0) [
-        | no e ↦ rw (ne-eqb (numberOf p s reply) 0 e) (omega arith)
+        | no e ↦ rw (ne-eqb (numberOf p s reply) 0 e) (omega (arith, place-few (numberOf p s reply) (faultOf (numberOf p s reply) p)))
         | yes e ↦
             elim (ℕ-discrete (isRead (headerOf p)) 1) [
-              | no r ↦ rw (ne-eqb (isRead (headerOf p)) 1 r, and-false) (omega arith)
+              | no r ↦ rw (e, ne-eqb (isRead (headerOf p)) 1 r) (omega arith)
               | yes r ↦
                   let a = passed p s reply e in
                   rw (e, eq-eqb (isRead (headerOf p)) 1 r)
@@ -129,11 +132,16 @@ answered n p a =
     ⊎-elim (λ r. rw (eq-eqb (isRead (headerOf p)) 1 r)) (λ r. rw (eq-eqb (asksReply (headerOf p)) 1 r, or-true)) (a .0 .bit) in
     rw (lt-ltb 0 (length p) (omega (arith, a .0 .some)), bits, ne-eqb n 1 (a .1))
 
--- A reply without data.
-bare-size : (h n : ℕ) → length (replyBytes (eqb (hasSum h) 1) n []) ≡ 3 + hasSum h
-bare-size h n =
-    length-reply (eqb (hasSum h) 1) n []
+-- A reply's size, by the header's bit for a checksum.
+reply-size : (h n : ℕ) (d : List ℕ) → length (replyBytes (eqb (hasSum h) 1) n d) ≡ length d + 3 + hasSum h
+reply-size h n d =
+    length-reply (eqb (hasSum h) 1) n d
     ∙ elim (ℕ-discrete (hasSum h) 1) [ yes e ↦ rw (eq-eqb (hasSum h) 1 e, e) | no e ↦ rw (ne-eqb (hasSum h) 1 e) (omega arith) ]
+
+-- The place that a reply names, where it stands.
+place-there : (sum : Bool) (n f : ℕ) (buffer : List ℕ) → wordAt (over (replyBytes sum n (wordBytes f)) buffer) 3 ≡ f
+unfolding over replyBytes
+place-there sum n f buffer = omega arith
 
 pub replied : (p : List ℕ) (s : State) (reply : List ℕ) → Replied p s (step p s reply)
 unfolding step replyTo
@@ -142,27 +150,40 @@ replied p s reply = go (answers n p) refl
     n : ℕ
     n = numberOf p s reply
 
+    f : ℕ
+    f = faultOf n p
+
     sum : Bool
     sum = eqb (hasSum (headerOf p)) 1
+
+    -- No data but an accepted read's and the place of 10.
+    no-data : (n ≡ 0 → isRead (headerOf p) ≡ 0) → (n ≡ 10 → ⊥) → replyData n f p s ≡ []
+    no-data write other =
+        elim (ℕ-discrete n 0)
+        [ yes z ↦ rw (ne-eqb n 10 other, write z, and-false) | no z ↦ rw (ne-eqb n 0 z, ne-eqb n 10 other) ]
 
     go : (b : Bool) → answers n p ≡ b → Replied p s (step p s reply)
     go false e =
         let none : replyTo n p s ≡ [] = rw e in
         record {
           asked = (λ h. absurd (omega (arith, ap length none)), λ a. absurd (true≢false (sym (answered n p a) ∙ e)));
-          bare = λ wrong h. absurd (omega (arith, ap length none));
+          bare = λ wrong other h. absurd (omega (arith, ap length none));
+          names = λ ten h. absurd (omega (arith, ap length none));
           means = λ h. absurd (omega (arith, ap length none));
           content = λ h. absurd (omega (arith, ap length none));
         }
     go true e =
-        let bytes : replyTo n p s ≡ replyBytes sum n (replyData n p s) = rw e in
+        let bytes : replyTo n p s ≡ replyBytes sum n (replyData n f p s) = rw e in
         let back =
-        reads-back sum n (replyData n p s) (number-small p s reply) (rw length-reply (fits sum (data-small p s reply))) in
+        reads-back sum n (replyData n f p s) (number-small p s reply) (rw length-reply (fits sum (data-small p s reply))) in
         record {
-          asked = (λ h. asks-it n p e, λ a. omega (arith, ap length bytes, length-reply sum n (replyData n p s)));
-          bare = λ wrong h.
-              let none : replyData n p s ≡ [] = rw (ne-eqb n 0 wrong) in
-              ap length (bytes ∙ ap (replyBytes sum n) none) ∙ bare-size (headerOf p) n;
+          asked = (λ h. asks-it n p e, λ a. omega (arith, ap length bytes, length-reply sum n (replyData n f p s)));
+          bare = λ write other h.
+              ap length (bytes ∙ ap (replyBytes sum n) (no-data write other)) ∙ reply-size (headerOf p) n [];
+          names = λ ten h.
+              let named : replyData n f p s ≡ wordBytes f = rw ten in
+              let whole = bytes ∙ ap (replyBytes sum n) named in
+              (ap length whole ∙ reply-size (headerOf p) n (wordBytes f), rw whole (place-there sum n f reply));
           means = λ h. rw (take-over (replyTo n p s) reply, bytes) (back .reading);
           content = λ h. rw (take-over (replyTo n p s) reply, bytes) (back .content);
         }
@@ -175,3 +196,12 @@ size-small p s reply = go (answers (numberOf p s reply) p) refl
     go : (b : Bool) → answers (numberOf p s reply) p ≡ b → step p s reply .size ≤ replyRoom
     go false e = rw e (omega arith)
     go true e = rw (e, length-reply) (fits (eqb (hasSum (headerOf p)) 1) (data-small p s reply))
+
+-- A place lies within a packet.
+pub fault-small : (p : List ℕ) (s : State) (reply : List ℕ) → step p s reply .fault < 512
+unfolding step numberOf
+fault-small p s reply = go (stopped s reply) refl
+  where
+    go : (b : Bool) → stopped s reply ≡ b → step p s reply .fault < 512
+    go true e = rw e (omega arith)
+    go false e = rw e (placed-fault p (s .block))

@@ -19,7 +19,7 @@ use Rattle.packet.specs.Points.{startOf, countOf, acceptedAt, mapAfter}
 use Rattle.packet.proofs.Frames.{reading-number, accepted}
 use Rattle.controller.specs.State.{State, state, stopped}
 use Rattle.controller.specs.Commands.{points, runsPast, written, blockAfter}
-use Rattle.controller.specs.Step.{Out, out, reads, readAndPlaced, emptyReply, step}
+use Rattle.controller.specs.Step.{Out, out, reads, readAndPlaced, statusReply, step}
 use Rattle.controller.proofs.Steps.{decision-number, step-written}
 use Rattle.controller.proofs.Demands.{decided}
 use Rattle.controller.proofs.Changes.{Way, way}
@@ -86,8 +86,8 @@ module _ (p : List ℕ) (s : State) (reply : List ℕ) (runs : stopped s reply �
   -- What the judge accepts: the write alone.
   pub accepted-step : acceptedAt (points (s .block)) p ≡ true
       → step p s reply
-      ≡ out 0 (length (emptyReply 0 p)) (state (s .block) (mapAfter (points (s .block)) p (s .staged)) (s .live) (s .gains))
-      (over (emptyReply 0 p) reply)
+      ≡ out 0 0 (length (statusReply 0 0 p)) (state (s .block) (mapAfter (points (s .block)) p (s .staged)) (s .live) (s .gains))
+      (over (statusReply 0 0 p) reply)
   unfolding mapAfter written blockAfter
   accepted-step a =
       let j = judged (points (s .block)) p a in

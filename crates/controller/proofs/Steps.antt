@@ -10,10 +10,10 @@ use lib.Dec.{eqb}
 use Rattle.wire.specs.First.{first}
 use Rattle.wire.specs.Buffers.{over}
 use Rattle.packet.specs.Frame.{headerOf, opcodeOf, dataOf}
-use Rattle.packet.specs.Reading.{answered}
+use Rattle.packet.specs.Reading.{faultOf, answered}
 use Rattle.controller.specs.State.{State, stopped}
 use Rattle.controller.specs.Commands.{written}
-use Rattle.controller.specs.Step.{reads, readAndPlaced, decision, numberOf, answers, replyTo, emptyReply, readReply, outOf, step}
+use Rattle.controller.specs.Step.{reads, readAndPlaced, decision, numberOf, answers, replyTo, statusReply, readReply, outOf, step}
 
 -- The number that a decision gives is the first of its refusals.
 pub decision-number : (p block : List ℕ) → decision p block .number ≡ first (readAndPlaced p block)
@@ -34,7 +34,7 @@ module _ (p : List ℕ) (s : State) (reply : List ℕ) where
   unfolding step
   step-by n e = ap (λ (n : ℕ). outOf n p s reply) e
 
-  pub step-stopped : stopped s reply ≡ true → step p s reply ≡ record { status = 1; size = 0; state = s; reply = reply }
+  pub step-stopped : stopped s reply ≡ true → step p s reply ≡ record { status = 1; fault = 0; size = 0; state = s; reply = reply }
   unfolding numberOf replyTo over
   step-stopped e = step-by 1 (rw e) ∙ rw and-false
 
@@ -44,14 +44,22 @@ module _ (p : List ℕ) (s : State) (reply : List ℕ) where
     number n e = rw runs (sym (decision-number p (s .block)) ∙ e)
 
     pub step-refused : (n : ℕ) → (n ≡ 0 → ⊥) → decision p (s .block) .number ≡ n
-        → step p s reply ≡ record { status = n; size = length (emptyReply n p); state = s; reply = over (emptyReply n p) reply }
-    unfolding replyTo emptyReply
+        → step p s reply
+        ≡ record {
+          status = n;
+          fault = faultOf n p;
+          size = length (statusReply n (faultOf n p) p);
+          state = s;
+          reply = over (statusReply n (faultOf n p) p) reply;
+        }
+    unfolding replyTo statusReply
     step-refused n h e = step-by n (number n e) ∙ rw (ne-eqb n 0 h)
 
     pub step-read : decision p (s .block) .number ≡ 0 → reads p ≡ true
         → step p s reply
         ≡ record {
           status = 0;
+          fault = 0;
           size = length (readReply (opcodeOf p) (headerOf p) (dataOf p) s);
           state = s;
           reply = over (readReply (opcodeOf p) (headerOf p) (dataOf p) s) reply;
@@ -63,9 +71,10 @@ module _ (p : List ℕ) (s : State) (reply : List ℕ) where
         → step p s reply
         ≡ record {
           status = 0;
-          size = length (emptyReply 0 p);
+          fault = 0;
+          size = length (statusReply 0 0 p);
           state = written (opcodeOf p) (dataOf p) s;
-          reply = over (emptyReply 0 p) reply;
+          reply = over (statusReply 0 0 p) reply;
         }
-    unfolding replyTo emptyReply
+    unfolding replyTo statusReply
     step-written e r = step-by 0 (number 0 e) ∙ rw r

@@ -15,7 +15,8 @@ use Rattle.wire.specs.Tables.{words}
 use Rattle.runs.specs.Pairs.{expand}
 use Rattle.opcode.specs.Options.{hasSum, asksReply, isRead}
 use Rattle.opcode.specs.Allowed.{two}
-use Rattle.packet.specs.Frame.{headerOf, opcodeOf, dataOf}
+use Rattle.opcode.specs.Faults.{Located}
+use Rattle.packet.specs.Frame.{headerOf, opcodeOf, optionsOf, dataOf}
 use Rattle.packet.specs.Reading.{reading}
 use Rattle.packet.specs.Points.{acceptedAt, mapAfter}
 use Rattle.packet.specs.Sound.{Taken}
@@ -26,7 +27,7 @@ use Rattle.settings.specs.AfterReset.{byteAfterReset}
 use Rattle.controller.specs.State.{State, state, ResetOut, resetOut, reset}
 use Rattle.controller.specs.Commands.{written}
 use Rattle.controller.specs.Effects.{Leaves, Returns}
-use Rattle.controller.specs.Step.{stepRefusals, emptyReply, readReply, replyData, Out, out, step}
+use Rattle.controller.specs.Step.{stepRefusals, statusReply, readReply, replyData, Out, out, step}
 
 -- ---- What is lent.
 
@@ -71,14 +72,15 @@ pub record Demand1 (p : List ℕ) (s : State) (reply : List ℕ) (o : Out) : Typ
   -- start and count do not lie within their table.
   pub number : o .status ≡ first (stepRefusals p s reply)
   pub one : (o .status ≡ 1) ↔ (LentRight s reply → ⊥)
-  pub from-reading : LentRight s reply → (reading p .number ≡ 0 → ⊥) → o .status ≡ reading p .number
+  pub from-reading : LentRight s reply → (reading p .number ≡ 0 → ⊥) → (o .status ≡ reading p .number) × (o .fault ≡ reading p .fault)
   pub twelve : LentRight s reply → reading p .number ≡ 0 → (Placed p (s .block) → ⊥) → o .status ≡ 12
   -- Rule 4.2: a refused packet changes no setting and no table point.
   pub unchanged : (o .status ≡ 0 → ⊥) → o .state ≡ s
-  -- Rules 3.2 and 3.3: refusal 1 writes no reply; another writes one without data, if the packet asks for it.
-  pub stopped : (LentRight s reply → ⊥) → o ≡ out 1 0 s reply
+  -- Rules 3.2 and 3.3: refusal 1 writes no reply; another writes one of its number and place, if the packet asks for it.
+  pub stopped : (LentRight s reply → ⊥) → o ≡ out 1 0 0 s reply
   pub refused : LentRight s reply → (o .status ≡ 0 → ⊥)
-      → o ≡ out (o .status) (length (emptyReply (o .status) p)) s (over (emptyReply (o .status) p) reply)
+      → o
+      ≡ out (o .status) (o .fault) (length (statusReply (o .status) (o .fault) p)) s (over (statusReply (o .status) (o .fault) p) reply)
   -- Rule 4.2: the reply buffer changes only where the reply is written.
   pub behind : drop (o .size) (o .reply) ≡ drop (o .size) reply
 
@@ -95,22 +97,22 @@ pub record Accepted (p : List ℕ) (s : State) (reply : List ℕ) : Type 0 where
 pub record Left (p : List ℕ) (s : State) (reply : List ℕ) (o : Out) : Type 0 where
   pub after : State
   pub by : Leaves s (opcodeOf p) (dataOf p) after
-  pub answer : o ≡ out 0 (length (emptyReply 0 p)) after (over (emptyReply 0 p) reply)
+  pub answer : o ≡ out 0 0 (length (statusReply 0 0 p)) after (over (statusReply 0 0 p) reply)
 
 pub record Returned (p : List ℕ) (s : State) (reply : List ℕ) (o : Out) : Type 0 where
   pub back : List ℕ
   pub by : Returns s (opcodeOf p) (dataOf p) back
   pub answer : o
-      ≡ out 0 (length (replyBytes (eqb (hasSum (headerOf p)) 1) 0 back)) s (over (replyBytes (eqb (hasSum (headerOf p)) 1) 0 back) reply)
+      ≡ out 0 0 (length (replyBytes (eqb (hasSum (headerOf p)) 1) 0 back)) s (over (replyBytes (eqb (hasSum (headerOf p)) 1) 0 back) reply)
 
 -- Accepted exactly then; a write leaves the command's state, a read the state as it was and the command's data in the reply (3.3).
 pub record Demand2 (p : List ℕ) (s : State) (reply : List ℕ) (o : Out) : Type 0 where
   pub exactly : (o .status ≡ 0) ↔ Accepted p s reply
   pub writes : Accepted p s reply → isRead (headerOf p) ≡ 0
-      → o ≡ out 0 (length (emptyReply 0 p)) (written (opcodeOf p) (dataOf p) s) (over (emptyReply 0 p) reply)
+      → o ≡ out 0 0 (length (statusReply 0 0 p)) (written (opcodeOf p) (dataOf p) s) (over (statusReply 0 0 p) reply)
   pub reads : Accepted p s reply → isRead (headerOf p) ≡ 1
       → o
-      ≡ out 0 (length (readReply (opcodeOf p) (headerOf p) (dataOf p) s)) s (over (readReply (opcodeOf p) (headerOf p) (dataOf p) s) reply)
+      ≡ out 0 0 (length (readReply (opcodeOf p) (headerOf p) (dataOf p) s)) s (over (readReply (opcodeOf p) (headerOf p) (dataOf p) s) reply)
   pub leaves : Accepted p s reply → isRead (headerOf p) ≡ 0 → Left p s reply o
   pub returns : Accepted p s reply → isRead (headerOf p) ≡ 1 → Returned p s reply o
 
@@ -121,16 +123,17 @@ pub record Asks (p : List ℕ) : Type 0 where
   pub some : 1 ≤ length p
   pub bit : (isRead (headerOf p) ≡ 1) ⊎ (asksReply (headerOf p) ≡ 1)
 
--- Rules 3.2, 3.3 and 3.6: one is written exactly if it is asked for and the number is not 1; a refusal's is the head alone, and a checksum if
--- there is one; and it reads back as it was meant: its status, and its data.
+-- Rules 3.2, 3.3, 3.6 and 4.6: one is written exactly if it is asked for and the number is not 1; that of a refusal, and of an accepted write, is the head
+-- alone, and a checksum if there is one, but that of 10 has the place in two bytes between them; and it reads back as it was meant: its status, and its data.
 pub record Replied (p : List ℕ) (s : State) (o : Out) : Type 0 where
   pub asked : (1 ≤ o .size) ↔ (Asks p × (o .status ≡ 1 → ⊥))
-  pub bare : (o .status ≡ 0 → ⊥) → 1 ≤ o .size → o .size ≡ 3 + hasSum (headerOf p)
+  pub bare : (o .status ≡ 0 → isRead (headerOf p) ≡ 0) → (o .status ≡ 10 → ⊥) → 1 ≤ o .size → o .size ≡ 3 + hasSum (headerOf p)
+  pub names : o .status ≡ 10 → 1 ≤ o .size → (o .size ≡ 5 + hasSum (headerOf p)) × (wordAt (o .reply) 3 ≡ o .fault)
   pub means : 1 ≤ o .size
       → replyReading (take (o .size) (o .reply)) (eqb (hasSum (headerOf p)) 1)
-      ≡ record { number = 0; status = o .status; place = 3; size = length (replyData (o .status) p s) }
+      ≡ record { number = 0; status = o .status; place = 3; size = length (replyData (o .status) (o .fault) p s) }
   pub content : 1 ≤ o .size
-      → take (length (replyData (o .status) p s)) (drop 3 (take (o .size) (o .reply))) ≡ replyData (o .status) p s
+      → take (length (replyData (o .status) (o .fault) p s)) (drop 3 (take (o .size) (o .reply))) ≡ replyData (o .status) (o .fault) p s
 
 -- ---- 36h, rule 5.6: the live side is the points, and the shape, mode and lists in the block; enable stands before it.
 
@@ -173,6 +176,8 @@ pub record Handled (p : List ℕ) (s : State) (reply : List ℕ) (o : Out) : Typ
   pub outcome : o ≡ step p s reply
   pub demand1 : Demand1 p s reply o
   pub demand2 : Demand2 p s reply o
+  -- Rule 4.6: a refusal by 10 has the place of the first fault, any other none.
+  pub located : Located (opcodeOf p) (optionsOf p) (dataOf p) (o .status) (o .fault)
   pub reply-meant : Replied p s o
   -- What was lent right is left so, each setting in its range.
   pub stays : LentRight s reply → LentRight (o .state) (o .reply)

@@ -6,9 +6,10 @@ use lib.ListN.{length}
 use lib.Dec.{eqb, ltb}
 use Rattle.wire.specs.First.{first}
 use Rattle.wire.specs.Buffers.{over}
+use Rattle.wire.specs.Numbers.{wordBytes}
 use Rattle.opcode.specs.Options.{hasSum, asksReply, isRead}
 use Rattle.packet.specs.Frame.{headerOf, opcodeOf, dataOf}
-use Rattle.packet.specs.Reading.{Answer, refusals, answered}
+use Rattle.packet.specs.Reading.{Answer, refusals, faultOf, answered}
 use Rattle.reply.specs.Reply.{replyBytes}
 use Rattle.controller.specs.State.{State, stopped}
 use Rattle.controller.specs.Commands.{written, dataBack, runsPast}
@@ -36,13 +37,18 @@ numberOf p s reply = first (stepRefusals p s reply)
 abbrev pub answers : ℕ → List ℕ → Bool
 answers number p = ltb 0 (length p) && (reads p || eqb (asksReply (headerOf p)) 1) && not (eqb number 1)
 
--- Rule 3.3: only an accepted read has data in its reply.
-abbrev pub replyData : ℕ → List ℕ → State → List ℕ
-replyData number p s = cond (eqb number 0 && reads p) (dataBack (opcodeOf p) (dataOf p) s) []
+-- Rules 3.3 and 4.6: the reply to a refusal by 10 has the place of the fault for data; to any other refusal, and to an accepted write, it has none.
+abbrev pub placeData : ℕ → ℕ → List ℕ
+placeData number fault = cond (eqb number 10) (wordBytes fault) []
 
--- Rule 3.1: the reply of a refusal, or of a write that was accepted.
-unfoldable pub emptyReply : ℕ → List ℕ → List ℕ
-emptyReply number p = cond (answers number p) (replyBytes (eqb (hasSum (headerOf p)) 1) number []) []
+-- Rule 3.3: an accepted read has the data that it returns.
+abbrev pub replyData : ℕ → ℕ → List ℕ → State → List ℕ
+replyData number fault p s = cond (eqb number 0 && reads p) (dataBack (opcodeOf p) (dataOf p) s) (placeData number fault)
+
+-- Rule 3.1: the reply of a refusal, from its number and place, or of a write that was accepted.
+unfoldable pub statusReply : ℕ → ℕ → List ℕ → List ℕ
+statusReply number fault p =
+    cond (answers number p) (replyBytes (eqb (hasSum (headerOf p)) 1) number (placeData number fault)) []
 
 -- Rule 3.3: the reply of an accepted read, from its opcode, its options or header, and its data.
 abbrev pub readReply : ℕ → ℕ → List ℕ → State → List ℕ
@@ -51,26 +57,28 @@ readReply op o d s = replyBytes (eqb (hasSum o) 1) 0 (dataBack op d s)
 -- Rule 3.1: the reply's bytes, none where none is written.
 unfoldable pub replyTo : ℕ → List ℕ → State → List ℕ
 replyTo number p s =
-    cond (answers number p) (replyBytes (eqb (hasSum (headerOf p)) 1) number (replyData number p s)) []
+    cond (answers number p) (replyBytes (eqb (hasSum (headerOf p)) 1) number (replyData number (faultOf number p) p s)) []
 
 -- Rule 4.2: a refusal changes neither settings nor tables; a read does not either.
 abbrev pub stateAfter : ℕ → List ℕ → State → State
 stateAfter number p s = cond (eqb number 0 && not (reads p)) (written (opcodeOf p) (dataOf p) s) s
 
--- Rule 3.4: the status and the length of the reply, 0 where there is none. Then all that was lent, as it is left.
+-- Rule 3.4: the status, the place of its fault (rule 4.6), and the length of the reply, 0 where there is none. Then all that was lent, as it is left.
 pub record Out : Type 0 where
   pub status : ℕ
+  pub fault : ℕ
   pub size : ℕ
   pub state : State
   pub reply : List ℕ
 
-abbrev pub out : ℕ → ℕ → State → List ℕ → Out
-out status size s reply = record { status = status; size = size; state = s; reply = reply }
+abbrev pub out : ℕ → ℕ → ℕ → State → List ℕ → Out
+out status fault size s reply = record { status = status; fault = fault; size = size; state = s; reply = reply }
 
 abbrev pub outOf : ℕ → List ℕ → State → List ℕ → Out
 outOf number p s reply =
     record {
       status = number;
+      fault = faultOf number p;
       size = length (replyTo number p s);
       state = stateAfter number p s;
       reply = over (replyTo number p s) reply;

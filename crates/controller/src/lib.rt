@@ -1,4 +1,4 @@
-// The front end's part that needs no table: the decision on a packet, the settings of the block, and replies without data. Both families of
+// The front end's part that needs no table: the decision on a packet, the settings of the block, and replies of a status. Both families of
 // entries, on 16-bit tables and on tables lent as bytes, stand on it.
 use opcode::bits;
 use packet::Reading;
@@ -8,7 +8,7 @@ ghost use mathlib.Core.Path.{_≡_};
 ghost use mathlib.Core.Bool.{cond, true};
 ghost use Prim.Native.Nat.{_+_, _^_, _<_, _≤_};
 ghost use lib.ListN.{length, take, drop};
-ghost use lib.Seq.{paste};
+ghost use lib.Seq.{paste, sets};
 ghost use lib.Dec.{eqb, ltb};
 ghost use Rattle.wire.specs.Buffers.{Overwrites};
 ghost use Rattle.wire.specs.First.{first};
@@ -22,7 +22,7 @@ ghost use Rattle.controller.specs.State.{replyRoom, dataRoom};
 ghost use Rattle.controller.specs.Commands.{pointCount, colourPlace, gainsStart, gainsCount, third, runsPast};
 ghost use Rattle.controller.specs.Commands.{blockAfter, blockBack, writeShape, applyBlock, readShape};
 ghost use Rattle.controller.specs.Internal.{PointsNamed, GainsNamed};
-ghost use Rattle.controller.specs.Step.{decision, emptyReply};
+ghost use Rattle.controller.specs.Step.{decision, placeData, statusReply};
 
 // How many numbers a map has, the gain table, and in it one colour.
 pub const MAP_SIZE: usize = 3968;
@@ -167,10 +167,10 @@ fn gains_at(colour: usize, start: usize, count: usize) -> Gains
     }
 }
 
-// Writes the reply that carries a status and no data, if the packet asks for one. Answers its length, 0 for none.
-pub fn acknowledge(packet: &[u8], number: usize, reply: &mut [u8]) -> usize
-    requires { ⌜ (number < 256) × (replyRoom ≤ length (now reply)) ⌝ }
-    ensures { λ r. ⌜ Overwrites r (emptyReply number (now (packet .entry))) (now (reply .entry)) (now (reply .exit)) ⌝ }
+// Writes the reply that carries a status, and of refusal 10 its place, if the packet asks for one. Answers its length, 0 for none.
+pub fn acknowledge(packet: &[u8], number: usize, fault: usize, reply: &mut [u8]) -> usize
+    requires { ⌜ (number < 256) × (fault < 65536) × (replyRoom ≤ length (now reply)) ⌝ }
+    ensures { λ r. ⌜ Overwrites r (statusReply number fault (now (packet .entry))) (now (reply .entry)) (now (reply .exit)) ⌝ }
 {
     if packet.len() == 0 {
         return 0;
@@ -183,28 +183,39 @@ pub fn acknowledge(packet: &[u8], number: usize, reply: &mut [u8]) -> usize
     if number == 1 {
         return 0;
     }
-    reply::seal(reply, number, 0, header / bits::SUM % 2 == 1)
+    let n = put_place(reply, number, fault);
+    reply::seal(reply, number, n, header / bits::SUM % 2 == 1)
 }
 
-// Rule 3.4: a status, the refusal's number or 0, and the length of the reply, 0 where there is none.
+// The data of such a reply, behind its head: of refusal 10 the place in two bytes, else none. Answers its size.
+fn put_place(reply: &mut [u8], number: usize, fault: usize) -> usize
+    requires { ⌜ (fault < 65536) × (replyRoom ≤ length (now reply)) ⌝ }
+    ensures { λ r. ⌜ (r ≡ length (placeData number fault))
+        × (now (reply .exit) ≡ sets (now (reply .entry)) 3 (placeData number fault)) ⌝ }
+{
+    if number == 10 {
+        wire::put_word(reply, 3, fault);
+        return 2;
+    }
+    0
+}
+
+// Rule 3.4: why the packet was refused, number 0 where it was not, and the length of the reply, 0 where there is none.
 pub struct Outcome {
-    pub status: u8,
+    pub why: Refusal,
     pub size: usize,
 }
 
 // The answer to a packet that a decision refuses.
 pub fn refuse(decision: Reading, packet: &[u8], reply: &mut [u8]) -> Outcome
-    requires { ⌜ replyRoom ≤ length (now reply) ⌝ }
-    ensures { λ r. ⌜ (r .status ≡ answer decision .number)
-        × Overwrites (r .size) (emptyReply (answer decision .number) (now (packet .entry))) (now (reply .entry))
-        (now (reply .exit)) ⌝ }
+    requires { ⌜ (answer decision .fault < 65536) × (replyRoom ≤ length (now reply)) ⌝ }
+    ensures { λ r. ⌜ (r .why .number ≡ answer decision .number) × (r .why .fault ≡ answer decision .fault)
+        × Overwrites (r .size) (statusReply (answer decision .number) (answer decision .fault) (now (packet .entry)))
+        (now (reply .entry)) (now (reply .exit)) ⌝ }
 {
-    let number = decision.refusal().number;
-    let size = acknowledge(packet, number as usize, reply);
-    Outcome {
-        status: number,
-        size,
-    }
+    let why = decision.refusal();
+    let size = acknowledge(packet, why.number as usize, why.fault, reply);
+    Outcome { why, size }
 }
 
 // The block after an accepted write: of 2Bh and 34h, which store in tables, it is as it was.

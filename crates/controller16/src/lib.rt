@@ -68,11 +68,14 @@ pub fn handle(
 ) -> Outcome
     ensures { λ r. ⌜ Handled (now (packet .entry))
         (state (now (block .entry)) (now (staged .entry)) (now (live .entry)) (now (gains .entry))) (now (reply .entry))
-        (outcome (r .status) (r .size)
+        (outcome (r .why .number) (r .why .fault) (r .size)
         (state (now (block .exit)) (now (staged .exit)) (now (live .exit)) (now (gains .exit))) (now (reply .exit))) ⌝ }
 {
     if stopped(block, staged, live, gains, reply) {
-        return Outcome { status: 1, size: 0 };
+        return Outcome {
+            why: wire::LENT_WRONG,
+            size: 0,
+        };
     }
     decided(packet, block, staged, live, gains, reply)
 }
@@ -87,7 +90,7 @@ fn decided(
     reply: &mut [u8],
 ) -> Outcome
     requires { ⌜ stoppedBy (state (now block) (now staged) (now live) (now gains)) (now reply) ≡ false ⌝ }
-    ensures { λ r. ⌜ outcome (r .status) (r .size)
+    ensures { λ r. ⌜ outcome (r .why .number) (r .why .fault) (r .size)
         (state (now (block .exit)) (now (staged .exit)) (now (live .exit)) (now (gains .exit))) (now (reply .exit))
         ≡ step (now (packet .entry))
         (state (now (block .entry)) (now (staged .entry)) (now (live .entry)) (now (gains .entry)))
@@ -132,7 +135,7 @@ fn perform(
 ) -> Outcome
     requires { ⌜ (stoppedBy (state (now block) (now staged) (now live) (now gains)) (now reply) ≡ false)
         × (commandAt opcode options at size ≡ decision (now packet) (now block)) ⌝ }
-    ensures { λ r. ⌜ outcome (r .status) (r .size)
+    ensures { λ r. ⌜ outcome (r .why .number) (r .why .fault) (r .size)
         (state (now (block .exit)) (now (staged .exit)) (now (live .exit)) (now (gains .exit))) (now (reply .exit))
         ≡ step (now (packet .entry))
         (state (now (block .entry)) (now (staged .entry)) (now (live .entry)) (now (gains .entry)))
@@ -141,11 +144,17 @@ fn perform(
     let data = &packet[at..at + size];
     if options / bits::READ % 2 == 1 {
         let n = answer_read(opcode, options, data, block, staged, gains, reply);
-        return Outcome { status: 0, size: n };
+        return Outcome {
+            why: wire::ACCEPTED,
+            size: n,
+        };
     }
     store(opcode, options, data, block, staged, live, gains);
-    let n = controller::acknowledge(packet, 0, reply);
-    Outcome { status: 0, size: n }
+    let n = controller::acknowledge(packet, 0, 0, reply);
+    Outcome {
+        why: wire::ACCEPTED,
+        size: n,
+    }
 }
 
 // Refusal 1: lengths, and then every setting.

@@ -55,17 +55,17 @@ running e f = let g = sym e ∙ f in (search told, search told)
 
 module _ (p : List ℕ) (l : Lent) (reply : List ℕ) where
   -- The step on the numbers that the bytes hold, as the step on the bytes.
-  pub in-bytes : byteLengthsRight l ≡ true → {status size : ℕ} {s : State} {t : Lent} {answer : List ℕ} → t ≡ lentOf s
-      → out status size s answer ≡ step p (stateIn l) reply → lentOut status size t answer ≡ stepBytes p l reply
+  pub in-bytes : byteLengthsRight l ≡ true → {status fault size : ℕ} {s : State} {t : Lent} {answer : List ℕ} → t ≡ lentOf s
+      → out status fault size s answer ≡ step p (stateIn l) reply → lentOut status fault size t answer ≡ stepBytes p l reply
   unfolding stepBytes
   in-bytes right same e = rw (same, right, ← e)
 
   pub stopped-way : Small l → {r : Bool} → r ≡ (not (byteLengthsRight l) || stopped (stateIn l) reply) → r ≡ true
-      → lentOut 1 0 l reply ≡ stepBytes p l reply
+      → lentOut 1 0 0 l reply ≡ stepBytes p l reply
   unfolding stepBytes
   stopped-way small e f = go (byteLengthsRight l) refl (sym e ∙ f)
     where
-      go : (b : Bool) → byteLengthsRight l ≡ b → (not b || stopped (stateIn l) reply) ≡ true → lentOut 1 0 l reply ≡ stepBytes p l reply
+      go : (b : Bool) → byteLengthsRight l ≡ b → (not b || stopped (stateIn l) reply) ≡ true → lentOut 1 0 0 l reply ≡ stepBytes p l reply
       go true right e = in-bytes right (unchanged l right small) (sym (step-stopped p (stateIn l) reply e))
       go false right e = rw right
 

@@ -51,19 +51,20 @@ stoppedBytes l reply = not (byteLengthsRight l) || stopped (stateIn l) reply
 -- The answer, and all that was lent, as it is left.
 pub record LentOut : Type 0 where
   pub status : ℕ
+  pub fault : ℕ
   pub size : ℕ
   pub lent : Lent
   pub reply : List ℕ
 
-abbrev pub lentOut : ℕ → ℕ → Lent → List ℕ → LentOut
-lentOut status size l reply = record { status = status; size = size; lent = l; reply = reply }
+abbrev pub lentOut : ℕ → ℕ → ℕ → Lent → List ℕ → LentOut
+lentOut status fault size l reply = record { status = status; fault = fault; size = size; lent = l; reply = reply }
 
 abbrev pub outBytes : Out → LentOut
-outBytes o = lentOut (o .status) (o .size) (lentOf (o .state)) (o .reply)
+outBytes o = lentOut (o .status) (o .fault) (o .size) (lentOf (o .state)) (o .reply)
 
 -- Rules 1.3 and 4.1, 1: a wrong length is refusal 1, with no reply and every byte as it was; else what the step on numbers gives.
 unfoldable pub stepBytes : List ℕ → Lent → List ℕ → LentOut
-stepBytes p l reply = cond (byteLengthsRight l) (outBytes (step p (stateIn l) reply)) (lentOut 1 0 l reply)
+stepBytes p l reply = cond (byteLengthsRight l) (outBytes (step p (stateIn l) reply)) (lentOut 1 0 0 l reply)
 
 pub record LentReset : Type 0 where
   pub status : ℕ
@@ -87,7 +88,7 @@ pub record BytesLent (l : Lent) : Type 0 where
 
 -- The answer and the numbers that the bytes left hold.
 abbrev pub numbersOut : LentOut → Out
-numbersOut o = out (o .status) (o .size) (stateIn (o .lent)) (o .reply)
+numbersOut o = out (o .status) (o .fault) (o .size) (stateIn (o .lent)) (o .reply)
 
 -- One packet: rule 4.2 byte for byte; accepted exactly as on numbers, with the lengths in bytes; and with these right, all that the
 -- entry on numbers promises of the numbers that the bytes hold.
@@ -98,7 +99,7 @@ pub record HandledBytes (p : List ℕ) (l : Lent) (reply : List ℕ) (o : LentOu
   -- The reply buffer changes only where the reply is written.
   pub behind : drop (o .size) (o .reply) ≡ drop (o .size) reply
   -- A wrong length is refusal 1, without a reply.
-  pub wrong-length : (BytesLent l → ⊥) → o ≡ lentOut 1 0 l reply
+  pub wrong-length : (BytesLent l → ⊥) → o ≡ lentOut 1 0 0 l reply
   pub exactly : (o .status ≡ 0) ↔ (BytesLent l × Accepted p (stateIn l) reply)
   pub numbers : BytesLent l → Handled p (stateIn l) reply (numbersOut o)
 

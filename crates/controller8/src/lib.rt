@@ -77,11 +77,14 @@ pub fn handle(
 ) -> Outcome
     ensures { λ r. ⌜ HandledBytes (now (packet .entry))
         (lent (now (block .entry)) (now (staged .entry)) (now (live .entry)) (now (gains .entry))) (now (reply .entry))
-        (lentOut (r .status) (r .size)
+        (lentOut (r .why .number) (r .why .fault) (r .size)
         (lent (now (block .exit)) (now (staged .exit)) (now (live .exit)) (now (gains .exit))) (now (reply .exit))) ⌝ }
 {
     if stopped(block, staged, live, gains, reply) {
-        return Outcome { status: 1, size: 0 };
+        return Outcome {
+            why: wire::LENT_WRONG,
+            size: 0,
+        };
     }
     decided(packet, block, staged, live, gains, reply)
 }
@@ -97,7 +100,7 @@ fn decided(
 ) -> Outcome
     requires { ⌜ (byteLengthsRight (lent (now block) (now staged) (now live) (now gains)) ≡ true)
         × (stoppedBy (stateIn (lent (now block) (now staged) (now live) (now gains))) (now reply) ≡ false) ⌝ }
-    ensures { λ r. ⌜ lentOut (r .status) (r .size)
+    ensures { λ r. ⌜ lentOut (r .why .number) (r .why .fault) (r .size)
         (lent (now (block .exit)) (now (staged .exit)) (now (live .exit)) (now (gains .exit))) (now (reply .exit))
         ≡ stepBytes (now (packet .entry))
         (lent (now (block .entry)) (now (staged .entry)) (now (live .entry)) (now (gains .entry)))
@@ -143,7 +146,7 @@ fn perform(
     requires { ⌜ (byteLengthsRight (lent (now block) (now staged) (now live) (now gains)) ≡ true)
         × (stoppedBy (stateIn (lent (now block) (now staged) (now live) (now gains))) (now reply) ≡ false)
         × (commandAt opcode options at size ≡ decision (now packet) (now block)) ⌝ }
-    ensures { λ r. ⌜ lentOut (r .status) (r .size)
+    ensures { λ r. ⌜ lentOut (r .why .number) (r .why .fault) (r .size)
         (lent (now (block .exit)) (now (staged .exit)) (now (live .exit)) (now (gains .exit))) (now (reply .exit))
         ≡ stepBytes (now (packet .entry))
         (lent (now (block .entry)) (now (staged .entry)) (now (live .entry)) (now (gains .entry)))
@@ -152,11 +155,17 @@ fn perform(
     let data = &packet[at..at + size];
     if options / bits::READ % 2 == 1 {
         let n = answer_read(opcode, options, data, block, staged, gains, reply);
-        return Outcome { status: 0, size: n };
+        return Outcome {
+            why: wire::ACCEPTED,
+            size: n,
+        };
     }
     store(opcode, options, data, block, staged, live, gains);
-    let n = controller::acknowledge(packet, 0, reply);
-    Outcome { status: 0, size: n }
+    let n = controller::acknowledge(packet, 0, 0, reply);
+    Outcome {
+        why: wire::ACCEPTED,
+        size: n,
+    }
 }
 
 // Refusal 1: lengths, and then every setting.

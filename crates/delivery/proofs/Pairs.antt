@@ -111,7 +111,7 @@ module _ (colour start : ℕ) (ws : List ℕ) (f : Sendable colour start ws) whe
 
   pub pairs-step : (s : State) (reply : List ℕ) → stopped s reply ≡ false
       → step (pairsPacket colour start ws) s reply
-      ≡ out 0 0 (state (s .block) (s .staged) (s .live) (colourInto colour start (expand ws) (s .gains))) reply
+      ≡ out 0 0 0 (state (s .block) (s .staged) (s .live) (colourInto colour start (expand ws) (s .gains))) reply
   unfolding pairsPacket written blockAfter over
   pairs-step s reply runs =
       let q = pairs-data colour start ws in

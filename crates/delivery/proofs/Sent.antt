@@ -16,7 +16,7 @@ use Rattle.packet.specs.Points.{startOf, pointsOf, acceptedAt, mapAfter}
 use Rattle.packet.proofs.MadeReads.{made-reads}
 use Rattle.controller.specs.State.{State, state, stopped}
 use Rattle.controller.specs.Commands.{points}
-use Rattle.controller.specs.Step.{Out, out, emptyReply, step}
+use Rattle.controller.specs.Step.{Out, out, statusReply, step}
 use Rattle.controller.proofs.Bounds.{counts}
 use Rattle.controller.proofs.Demands.{lent}
 use Rattle.upload.specs.Plan.{Part, planOf, packetFor, packetsOf}
@@ -71,8 +71,8 @@ quiet-parts n w (p ∷ ps) (AllAccepted.next a r) =
     let d : List ℕ = wordBytes (p .start) ++ bytes (take (2 * p .count) (drop (2 * p .start) w)) in
     Quiet.next a (made-reads 0x34 0x10 d refl .header) (quiet-parts n w ps r)
 
-pub no-reply : (p : List ℕ) → headerOf p ≡ 0x14 → emptyReply 0 p ≡ []
-unfolding emptyReply
+pub no-reply : (p : List ℕ) → headerOf p ≡ 0x14 → statusReply 0 0 p ≡ []
+unfolding statusReply
 no-reply p h = rw (h, and-false)
 
 -- The state that the judge's map stands for.
@@ -84,7 +84,7 @@ unfolding stopped
 stopped-staging s reply m l = rw l
 
 quiet-step : {n : ℕ} (p : List ℕ) (s : State) (reply : List ℕ) → stopped s reply ≡ false → points (s .block) ≡ n → acceptedAt n p ≡ true
-    → headerOf p ≡ 0x14 → step p s reply ≡ out 0 0 (staging s (mapAfter n p (s .staged))) reply
+    → headerOf p ≡ 0x14 → step p s reply ≡ out 0 0 0 (staging s (mapAfter n p (s .staged))) reply
 unfolding over
 quiet-step p s reply runs e a h = rw (← e) (accepted-step p s reply runs (rw e a) ∙ rw (no-reply p h))
 

@@ -11,7 +11,7 @@ use Rattle.upload.specs.Plan.{packetsOf}
 -- Each of the calls is accepted and changes the state alone: status 0, no reply, and the reply buffer as it was.
 pub data AllStored : List Call → State → Type 0 where
   none : {s : State} → AllStored [] s
-  next : {x : Call} {xs : List Call} {s : State} → step (x .packet) s (x .reply) ≡ out 0 0 (step (x .packet) s (x .reply) .state) (x .reply)
+  next : {x : Call} {xs : List Call} {s : State} → step (x .packet) s (x .reply) ≡ out 0 0 0 (step (x .packet) s (x .reply) .state) (x .reply)
       → AllStored xs (step (x .packet) s (x .reply) .state) → AllStored (x ∷ xs) s
 
 -- The state that the plan's packets leave.

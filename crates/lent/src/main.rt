@@ -274,7 +274,7 @@ fn send(
     show::bytes(packet, packet.len());
     io::write_all(1, b" -> ");
     let o = controller16::handle(packet, block, staged, live, gains, reply);
-    io::print_decimal(1, o.status as u64);
+    io::print_decimal(1, o.why.number as u64);
     if 0 < o.size {
         io::write_all(1, b":");
         show::bytes(reply, o.size);

@@ -3,3 +3,5 @@ pub mod Rows
 pub mod Laws
 pub mod Accepts
 pub mod Below
+pub mod Faults
+pub mod Numbers

@@ -111,3 +111,7 @@ judgement op o d =
     ∷ (10, valueWrong op o d)
     ∷ (11, namedOnly op o d)
     ∷ []
+
+-- Rule 4.6: the place that a refusal names: that of 10 is the first value at fault, any other has none.
+abbrev pub faultPlace : ℕ → ℕ → ℕ → List ℕ → ℕ
+faultPlace number op o d = cond (eqb number 10) (valueFault op o d) 0

@@ -14,7 +14,7 @@ ghost use Prim.Native.Nat.{_*_, _≤_};
 ghost use lib.ListN.{length};
 ghost use Rattle.wire.specs.First.{first};
 ghost use Rattle.opcode.specs.Commands.{rowOf};
-ghost use Rattle.opcode.specs.Judgement.{judgement, sizeWrong, variableSizeWrong, valueFault, variableFault};
+ghost use Rattle.opcode.specs.Judgement.{judgement, faultPlace, sizeWrong, variableSizeWrong, valueFault, variableFault};
 ghost use Rattle.opcode.specs.Judgement.{«unknown», lacksLength, namedOnly};
 ghost use Rattle.opcode.specs.Judgement.{pointsSizeWrong, gainsSizeWrong, controlSizeWrong, smoothSizeWrong};
 ghost use Rattle.opcode.specs.Judgement.{inPairs, wordsFault, gainsFault, listsFault, controlFault, smoothFault};
@@ -32,9 +32,11 @@ const ROW_LIST: usize = 125;
 
 const SMOOTH_HEAD: usize = 2;
 
-// Judges a command by its opcode, options (header bits 3 to 7 in place) and data: the first of refusals 7 to 11, 0 for none.
+// Judges a command by its opcode, options (header bits 3 to 7 in place) and data: the first of refusals 7 to 11, 0 for none. Of 10 with the
+// place that the search for a value at fault came to.
 pub fn judge(opcode: usize, options: usize, data: &[u8]) -> Refusal
-    ensures { λ r. ⌜ r .number ≡ first (judgement opcode options (now («data» .entry))) ⌝ }
+    ensures { λ r. ⌜ (r .number ≡ first (judgement opcode options (now («data» .entry))))
+        × (r .fault ≡ faultPlace (first (judgement opcode options (now («data» .entry)))) opcode options (now («data» .entry))) ⌝ }
 {
     let row = row_at(opcode);
     if unknown(row, opcode) {
@@ -48,7 +50,7 @@ pub fn judge(opcode: usize, options: usize, data: &[u8]) -> Refusal
     }
     let at = value_fault(row, opcode, options, data);
     if at < data.len() {
-        return Refusal::by(10);
+        return Refusal::value_at(at);
     }
     if named_only(opcode, options, data) {
         return Refusal::by(11);

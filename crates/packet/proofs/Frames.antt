@@ -9,9 +9,9 @@ use lib.ListN.{length, take, drop}
 use lib.Dec.{eqb}
 use Rattle.wire.specs.First.{first}
 use Rattle.wire.proofs.Tests.{first-silent, first-left, first-right, none-both}
-use Rattle.opcode.specs.Judgement.{judgement}
+use Rattle.opcode.specs.Judgement.{judgement, faultPlace}
 use Rattle.packet.specs.Frame.{headerOf, opcodeOf, optionsOf, place, fields, dataSize, dataOf}
-use Rattle.packet.specs.Reading.{Answer, tooShort, tooLong, lengthDiffers, checksumDiffers, elsewhere, frameRefusals, refusals, commandAt, refusedBy, answered, reading}
+use Rattle.packet.specs.Reading.{Answer, tooShort, tooLong, lengthDiffers, checksumDiffers, elsewhere, frameRefusals, refusals, faultOf, commandAt, refusedBy, answered, reading}
 use Rattle.packet.specs.Internal.{framed}
 
 -- What stands in a packet.
@@ -51,35 +51,50 @@ pub standing-as : (p : List ℕ) {op o at size : ℕ} → op ≡ opcodeOf p → 
     → commandAt op o at size ≡ standing p
 standing-as p h i j k = rw (h, i, j, k)
 
--- An answer is sound exactly if its number is 0: a refusal has no place, and data is never at place 0.
-sound-zero : (b : Bool) (n : ℕ) (p : List ℕ) {op o at size : ℕ} → eqb n 0 ≡ b
-    → commandAt op o at size ≡ cond b (standing p) (refusedBy n) → n ≡ 0
-sound-zero true n p e h = eqb-true n 0 e
-sound-zero false n p e h = sym (ap (λ (a : Answer). a .number) h)
+-- An answer is sound exactly if its number is 0: a refusal has no data, and data is never at place 0.
+sound-zero : (b : Bool) (n f : ℕ) (p : List ℕ) {op o at size : ℕ} → eqb n 0 ≡ b
+    → commandAt op o at size ≡ cond b (standing p) (refusedBy n f) → n ≡ 0
+sound-zero true n f p e h = eqb-true n 0 e
+sound-zero false n f p e h = sym (ap (λ (a : Answer). a .number) h)
 
-broken-some : (b : Bool) (n m : ℕ) (p : List ℕ) → refusedBy m ≡ cond b (standing p) (refusedBy n) → b ≡ false
-broken-some true n m p h = let z = ap (λ (a : Answer). a .place) h in absurd (omega arith)
-broken-some false n m p h = refl
+broken-some : (b : Bool) (n f m g : ℕ) (p : List ℕ) → refusedBy m g ≡ cond b (standing p) (refusedBy n f) → b ≡ false
+broken-some true n f m g p h = let z = ap (λ (a : Answer). a .place) h in absurd (omega arith)
+broken-some false n f m g p h = refl
 
 -- The number answered is the number found.
-number-by : (b : Bool) (n : ℕ) (p : List ℕ) → eqb n 0 ≡ b → cond b (standing p) (refusedBy n) .number ≡ n
-number-by true n p e = sym (eqb-true n 0 e)
-number-by false n p e = refl
+number-by : (b : Bool) (n f : ℕ) (p : List ℕ) → eqb n 0 ≡ b → cond b (standing p) (refusedBy n f) .number ≡ n
+number-by true n f p e = sym (eqb-true n 0 e)
+number-by false n f p e = refl
 
 pub reading-number : (p : List ℕ) → reading p .number ≡ first (refusals p)
 unfolding reading
-reading-number p = number-by (eqb (first (refusals p)) 0) (first (refusals p)) p refl
+reading-number p = number-by (eqb (first (refusals p)) 0) (first (refusals p)) _ p refl
+
+-- And the place is that of the number: 0 has none.
+fault-by : (b : Bool) (n : ℕ) (p : List ℕ) → eqb n 0 ≡ b → cond b (standing p) (refusedBy n (faultOf n p)) .fault ≡ faultOf n p
+fault-by true n p e = rw (eqb-true n 0 e)
+fault-by false n p e = refl
+
+pub reading-fault : (p : List ℕ) → reading p .fault ≡ faultOf (first (refusals p)) p
+unfolding reading
+reading-fault p = fault-by (eqb (first (refusals p)) 0) (first (refusals p)) p refl
 
 -- A packet that nothing is refused of.
 pub accepted : (p : List ℕ) → first (refusals p) ≡ 0 → reading p ≡ standing p
 unfolding reading
 accepted p e = ap (λ (n : ℕ). answered n p) e
 
+-- A refusal's number is not 0.
+pub refused-some : (p : List ℕ) (n f : ℕ) → refusedBy n f ≡ reading p → n ≡ 0 → ⊥
+refused-some p n f h z =
+    let none = sym (reading-number p) ∙ sym (ap (λ (a : Answer). a .number) h) ∙ z in
+    omega (arith, ap (λ (a : Answer). a .place) (h ∙ accepted p none))
+
 -- A broken frame's refusal is that of the packet.
-pub broken-read : (p : List ℕ) (n : ℕ) → refusedBy n ≡ framed p → refusedBy n ≡ reading p
+pub broken-read : (p : List ℕ) (n f : ℕ) → refusedBy n f ≡ framed p → refusedBy n f ≡ reading p
 unfolding framed reading
-broken-read p n h =
-    let some = broken-some (eqb (first (frameRefusals p)) 0) (first (frameRefusals p)) n p h in
+broken-read p n f h =
+    let some = broken-some (eqb (first (frameRefusals p)) 0) (first (frameRefusals p)) _ n f p h in
     h ∙ ap (λ (n : ℕ). answered n p) (sym (first-left (frameRefusals p) (judgement (opcodeOf p) (optionsOf p) (dataOf p)) (eqb-false (first (frameRefusals p)) 0 some)))
 
 -- What a sound frame holds.
@@ -96,7 +111,7 @@ pub stands : (p : List ℕ) (op o at size : ℕ) → commandAt op o at size ≡ 
     → Stands p op o at size
 unfolding framed
 stands p op o at size h =
-    let zero-number = sound-zero (eqb (first (frameRefusals p)) 0) (first (frameRefusals p)) p refl h in
+    let zero-number = sound-zero (eqb (first (frameRefusals p)) 0) (first (frameRefusals p)) _ p refl h in
     let same : commandAt op o at size ≡ standing p =
     h ∙ ap (λ (n : ℕ). answered n p) zero-number in
     let tests = none-of (tooShort p) (tooLong p) (lengthDiffers p) (checksumDiffers p) (elsewhere p) [] zero-number .0 in
@@ -114,15 +129,19 @@ stands p op o at size h =
 pub alike : (J : ℕ → ℕ → List ℕ → ℕ) {op op′ o o′ : ℕ} {d d′ : List ℕ} → op ≡ op′ → o ≡ o′ → d ≡ d′ → J op o d ≡ J op′ o′ d′
 alike J e f g = rw (e, f, g)
 
-pub judged-read : (p : List ℕ) (op o at size n : ℕ) → commandAt op o at size ≡ framed p
-    → n ≡ first (judgement op o (take (at + size - at) (drop at p)))
-    → cond (eqb n 0) (commandAt op o at size) (refusedBy n) ≡ reading p
+pub judged-read : (p : List ℕ) (op o at size n f : ℕ) → commandAt op o at size ≡ framed p
+    → (n ≡ first (judgement op o (take (at + size - at) (drop at p))))
+    × (f ≡ faultPlace (first (judgement op o (take (at + size - at) (drop at p)))) op o (take (at + size - at) (drop at p)))
+    → cond (eqb n 0) (commandAt op o at size) (refusedBy n f) ≡ reading p
 unfolding framed reading
-judged-read p op o at size n h e =
+judged-read p op o at size n f h e =
     let s = stands p op o at size h in
     let long : at + size - at ≡ dataSize p = omega (arith, s .same-size) in
     let there : take (at + size - at) (drop at p) ≡ dataOf p = rw (long, s .same-place) in
     let number : n ≡ first (refusals p) =
-    e ∙ alike (λ (op o : ℕ) (d : List ℕ). first (judgement op o d)) (s .same-opcode) (s .same-options) there
+    e .0 ∙ alike (λ (op o : ℕ) (d : List ℕ). first (judgement op o d)) (s .same-opcode) (s .same-options) there
     ∙ sym (first-right (frameRefusals p) (judgement (opcodeOf p) (optionsOf p) (dataOf p)) (first-silent (frameRefusals p) (omega arith) (s .none))) in
-    ap (λ (a : Answer). cond (eqb n 0) a (refusedBy n)) (h ∙ ap (λ (n : ℕ). answered n p) (s .none)) ∙ ap (λ (n : ℕ). answered n p) number
+    let found : f ≡ faultOf n p =
+    e .1 ∙ ap (λ (n : ℕ). faultPlace n op o (take (at + size - at) (drop at p))) (sym (e .0)) ∙ alike (faultPlace n) (s .same-opcode) (s .same-options) there in
+    ap (λ (f : ℕ). cond (eqb n 0) (commandAt op o at size) (refusedBy n f)) found
+    ∙ ap (λ (a : Answer). cond (eqb n 0) a (refusedBy n (faultOf n p))) (h ∙ ap (λ (n : ℕ). answered n p) (s .none)) ∙ ap (λ (n : ℕ). answered n p) number

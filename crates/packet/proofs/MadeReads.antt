@@ -13,15 +13,15 @@ use Rattle.wire.specs.Numbers.{byteAt, wordAt, wordBytes}
 use Rattle.wire.specs.Checksum.{checksum}
 use Rattle.wire.specs.First.{first}
 use Rattle.opcode.specs.Options.{twoByte, hasLength, hasSum, destination, optionsIn}
-use Rattle.opcode.specs.Judgement.{judgement}
+use Rattle.opcode.specs.Judgement.{judgement, faultPlace}
 use Rattle.packet.specs.Frame.{headerOf, opcodeOf, place, fields, dataSize, dataOf}
-use Rattle.packet.specs.Reading.{tooShort, tooLong, lengthDiffers, checksumDiffers, elsewhere, refusals, reading}
+use Rattle.packet.specs.Reading.{tooShort, tooLong, lengthDiffers, checksumDiffers, elsewhere, refusals, faultOf, reading}
 use Rattle.packet.specs.Making.{present, headBytes, packetOf, Made, makeRefusals, made}
 use Rattle.packet.specs.Promises.{ReadsAsMade}
 use Rattle.wire.proofs.Laws.{take-over}
 use Rattle.packet.proofs.Stores.{length-head, length-packet}
-use Rattle.packet.proofs.Frames.{rows, alike, reading-number, accepted, standing-as}
-use Rattle.packet.proofs.Makes.{made-by, made-status}
+use Rattle.packet.proofs.Frames.{rows, alike, reading-number, reading-fault, accepted, standing-as}
+use Rattle.packet.proofs.Makes.{made-by, made-status, made-fault}
 
 -- The fields of a packet that is made, for any opcode and any data; of the options, that they are bits 3 to 7 alone.
 pub record MadeReads (op o : ℕ) (d : List ℕ) : Type 0 where
@@ -139,22 +139,40 @@ module _ (op options : ℕ) (d buffer : List ℕ) where
   options-whole : optionsIn (optionsIn options) ≡ optionsIn options
   options-whole = omega arith
 
-  status-first : made op options d buffer .status ≡ first (makeRefusals op (optionsIn options) d (length buffer))
-  status-first =
+  pub made-number : made op options d buffer .status ≡ first (makeRefusals op (optionsIn options) d (length buffer))
+  made-number =
       ap (λ (m : Made). m .status) (made-by op options d buffer (first (makeRefusals op (optionsIn options) d (length buffer))) refl)
       ∙ made-status (first (makeRefusals op (optionsIn options) d (length buffer))) op (optionsIn options) d buffer
 
-  pub refuses-as-read : 512 ≤ length buffer → made op options d buffer .status ≡ reading (packetOf op (optionsIn options) d) .number
+  pub made-place : made op options d buffer .fault ≡ faultPlace (first (makeRefusals op (optionsIn options) d (length buffer))) op (optionsIn options) d
+  made-place =
+      ap (λ (m : Made). m .fault) (made-by op options d buffer (first (makeRefusals op (optionsIn options) d (length buffer))) refl)
+      ∙ made-fault (first (makeRefusals op (optionsIn options) d (length buffer))) op (optionsIn options) d buffer
+
+  number-as-read : 512 ≤ length buffer
+      → first (makeRefusals op (optionsIn options) d (length buffer)) ≡ first (refusals (packetOf op (optionsIn options) d))
+  number-as-read room =
+      ap (λ (b : Bool). first ((1, b) ∷ (3, ltb 512 (fields (optionsIn options) + length d)) ∷ judgement op (optionsIn options) d)) (le-ltb (length buffer) 512 room)
+      ∙ sym (made-reads op (optionsIn options) d options-whole .refusal)
+
+  pub refuses-as-read : 512 ≤ length buffer
+      → (made op options d buffer .status ≡ reading (packetOf op (optionsIn options) d) .number)
+      × (made op options d buffer .fault ≡ reading (packetOf op (optionsIn options) d) .fault)
   refuses-as-read room =
-      status-first
-      ∙ ap (λ (b : Bool). first ((1, b) ∷ (3, ltb 512 (fields (optionsIn options) + length d)) ∷ judgement op (optionsIn options) d)) (le-ltb (length buffer) 512 room)
-      ∙ sym (reading-number (packetOf op (optionsIn options) d) ∙ made-reads op (optionsIn options) d options-whole .refusal)
+      let reads = made-reads op (optionsIn options) d options-whole in
+      let n : ℕ = first (makeRefusals op (optionsIn options) d (length buffer)) in (
+        made-number ∙ number-as-read room ∙ sym (reading-number (packetOf op (optionsIn options) d)),
+        made-place
+            ∙ alike (faultPlace n) (sym (reads .opcode)) (sym (reads .options)) (sym (reads .content))
+            ∙ ap (λ (n : ℕ). faultOf n (packetOf op (optionsIn options) d)) (number-as-read room)
+            ∙ sym (reading-fault (packetOf op (optionsIn options) d)),
+      )
 
   pub reads-as-made : made op options d buffer .status ≡ 0 → ReadsAsMade op options d (made op options d buffer)
   reads-as-made done =
       let p : List ℕ = packetOf op (optionsIn options) d in
       let reads = made-reads op (optionsIn options) d options-whole in
-      let none = sym status-first ∙ done in
+      let none = sym made-number ∙ done in
       let after = row-failed 0 (ltb (length buffer) 512) ((3, ltb 512 (fields (optionsIn options) + length d)) ∷ judgement op (optionsIn options) d) none in
       rw (made-by op options d buffer 0 none)
       (record {

@@ -2,15 +2,19 @@
 use Prim.Native.Nat.{ℕ, _+_, _≤_, _<_}
 use mathlib.Core.Path.{_≡_, refl, sym, ap, _∙_}
 use mathlib.Core.Bool.{Bool, true, false, cond}
-use mathlib.Core.List.{List, _∷_}
+use mathlib.Core.List.{List, [], _∷_}
 use borrow.Author.Tests.{lt-ltb, le-ltb, ne-eqb, eqb-true}
 use lib.ListN.{length}
 use lib.Dec.{eqb, ltb}
 use Rattle.wire.specs.First.{first}
 use Rattle.opcode.specs.Options.{optionsIn}
-use Rattle.opcode.specs.Judgement.{judgement}
+use Rattle.opcode.specs.Judgement.{judgement, faultPlace}
 use Rattle.packet.specs.Frame.{fields}
 use Rattle.packet.specs.Making.{Made, makeRefusals, madeBy, made}
+
+-- Making's own refusals, which stand before those of the command.
+abbrev pub makeFront : ℕ → List ℕ → ℕ → List (ℕ × Bool)
+makeFront o d room = (1, ltb room 512) ∷ (3, ltb 512 (fields o + length d)) ∷ []
 
 -- The first number of making's list.
 small : {a : Bool} (b : Bool) (ts : List (ℕ × Bool)) → a ≡ true → first ((1, a) ∷ (3, b) ∷ ts) ≡ 1
@@ -29,6 +33,18 @@ status-by false n x y e h i = i
 
 pub made-status : (n op o : ℕ) (d buffer : List ℕ) → madeBy n op o d buffer .status ≡ n
 made-status n op o d buffer = status-by (eqb n 0) n _ _ refl refl refl
+
+-- And the place is that of the number: 0 has none.
+pub made-fault : (n op o : ℕ) (d buffer : List ℕ) → madeBy n op o d buffer .fault ≡ faultPlace n op o d
+made-fault n op o d buffer = go (eqb n 0) refl
+  where
+    go : (b : Bool) → eqb n 0 ≡ b → madeBy n op o d buffer .fault ≡ faultPlace n op o d
+    go true e = rw (eqb-true n 0 e)
+    go false e = rw e
+
+-- Where nothing is refused there is no place.
+pub no-place : (op o : ℕ) (d : List ℕ) (n f : ℕ) → (n ≡ first (judgement op o d)) × (f ≡ faultPlace (first (judgement op o d)) op o d) → n ≡ 0 → f ≡ 0
+no-place op o d n f e z = e .1 ∙ rw (sym (e .0) ∙ z)
 
 module _ (op options : ℕ) (d buffer : List ℕ) where
   pub made-by : (n : ℕ) → first (makeRefusals op (optionsIn options) d (length buffer)) ≡ n
@@ -52,9 +68,10 @@ module _ (op options : ℕ) (d buffer : List ℕ) where
           made-by n
           (fits (judgement op (optionsIn options) d) (le-ltb (length buffer) 512 room) (le-ltb 512 (fields (optionsIn options) + length d) fit) ∙ e)
 
-      pub made-refused : (n : ℕ) → first (judgement op (optionsIn options) d) ≡ n → (n ≡ 0 → ⊥)
-          → made op options d buffer ≡ record { status = n; size = 0; buffer = buffer }
-      made-refused n e h = made-judged n e ∙ rw (ne-eqb n 0 h)
+      pub made-refused : (n f : ℕ)
+          → (n ≡ first (judgement op (optionsIn options) d)) × (f ≡ faultPlace (first (judgement op (optionsIn options) d)) op (optionsIn options) d)
+          → (n ≡ 0 → ⊥) → made op options d buffer ≡ record { status = n; fault = f; size = 0; buffer = buffer }
+      made-refused n f e h = made-judged n (sym (e .0)) ∙ rw (ne-eqb n 0 h, e .1, ← e .0)
 
 -- A packet that nothing is refused of, from options that have no other bits.
 pub made-whole : (op o : ℕ) (d buffer : List ℕ) → optionsIn o ≡ o → 512 ≤ length buffer → fields o + length d ≤ 512 → first (judgement op o d) ≡ 0

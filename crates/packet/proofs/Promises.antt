@@ -2,23 +2,54 @@
 use Prim.Native.Nat.{ℕ, _<_}
 use mathlib.Core.Path.{_≡_, refl, sym, ap, _∙_}
 use mathlib.Core.Bool.{Bool, true, false}
-use mathlib.Core.List.{List}
-use borrow.Author.Tests.{eqb-true}
+use mathlib.Core.List.{List, []}
+use native.Mathlib.Omega.{arith}
 use lib.ListN.{length, drop, getD}
 use lib.Seq.{drop-at}
 use lib.Dec.{eqb}
 use Rattle.wire.specs.First.{first}
 use Rattle.wire.specs.Buffers.{over}
 use Rattle.opcode.specs.Options.{optionsIn}
-use Rattle.opcode.specs.Judgement.{judgement}
+use Rattle.opcode.specs.Judgement.{judgement, faultPlace}
+use Rattle.opcode.specs.Faults.{Located}
+use Rattle.opcode.specs.Numbers.{CommandNumber}
+use Rattle.opcode.proofs.Faults.{located}
+use Rattle.opcode.proofs.Numbers.{command-number}
 use Rattle.opcode.proofs.Rows.{beyond}
-use Rattle.packet.specs.Reading.{Answer, reading}
+use Rattle.packet.specs.Frame.{opcodeOf, optionsOf, dataOf}
+use Rattle.packet.specs.Reading.{frameRefusals, faultOf, Answer, reading}
+use Rattle.packet.proofs.Frames.{reading-number, reading-fault}
 use Rattle.packet.specs.Making.{packetOf, Made, makeRefusals, madeBy, made}
 use Rattle.packet.specs.Promises.{PacketRead, PacketMade}
-use Rattle.packet.proofs.Exactly.{exactly, frame-number}
-use Rattle.packet.proofs.Makes.{made-by, made-small, made-judged}
-use Rattle.packet.proofs.MadeReads.{reads-as-made, refuses-as-read}
+use Rattle.packet.proofs.Exactly.{bytes-of-data, exactly, frame-number}
+use Rattle.packet.proofs.Makes.{makeFront, made-by, made-small, made-judged}
+use Rattle.packet.proofs.MadeReads.{made-number, made-place, reads-as-made, refuses-as-read}
 use Rattle.packet.proofs.MadeAgain.{made-again}
+
+-- Rule 4.6, of what reading and making answer.
+read-located : (p : List ℕ) → ((k : ℕ) → getD p k 0 < 256) → Located (opcodeOf p) (optionsOf p) (dataOf p) (reading p .number) (reading p .fault)
+unfolding judgement
+read-located p bytes =
+    located (opcodeOf p) (optionsOf p) (dataOf p) (frameRefusals p) [] (omega arith) (bytes-of-data p bytes) (reading-number p)
+    (reading-fault p ∙ ap (λ (n : ℕ). faultOf n p) (sym (reading-number p)))
+
+make-located : (op options : ℕ) (d : List ℕ) → ((k : ℕ) → getD d k 0 < 256) → (buffer : List ℕ)
+    → Located op (optionsIn options) d (made op options d buffer .status) (made op options d buffer .fault)
+unfolding judgement
+make-located op options d bytes buffer =
+    let number = made-number op options d buffer in
+    located op (optionsIn options) d (makeFront (optionsIn options) d (length buffer)) [] (omega arith) bytes number
+    (made-place op options d buffer ∙ ap (λ (n : ℕ). faultPlace n op (optionsIn options) d) (sym number))
+
+-- Rule 4.1, of the same.
+read-command : (p : List ℕ) → CommandNumber (opcodeOf p) (optionsOf p) (dataOf p) (reading p .number)
+unfolding judgement
+read-command p = command-number (opcodeOf p) (optionsOf p) (dataOf p) (frameRefusals p) [] (omega arith) (reading-number p)
+
+make-command : (op options : ℕ) (d buffer : List ℕ) → CommandNumber op (optionsIn options) d (made op options d buffer .status)
+unfolding judgement
+make-command op options d buffer =
+    command-number op (optionsIn options) d (makeFront (optionsIn options) d (length buffer)) [] (omega arith) (made-number op options d buffer)
 
 pub read-promised : (p : List ℕ) → ((k : ℕ) → getD p k 0 < 256) → {a : Answer} → a ≡ reading p → PacketRead p a
 read-promised p bytes e =
@@ -27,6 +58,8 @@ read-promised p bytes e =
       outcome = refl;
       exactly = exactly p bytes;
       frame-number = frame-number p;
+      command-number = read-command p;
+      located = read-located p bytes;
       again = λ n buffer room. made-again p buffer bytes n room;
     })
 
@@ -47,8 +80,9 @@ beyond-7 : (op o : ℕ) (d : List ℕ) → 255 < op → first (judgement op o d)
 unfolding judgement
 beyond-7 op o d h = rw (beyond op h)
 
-pub make-promised : (op options : ℕ) (d buffer : List ℕ) {m : Made} → m ≡ made op options d buffer → PacketMade op options d buffer m
-make-promised op options d buffer e =
+pub make-promised : (op options : ℕ) (d : List ℕ) → ((k : ℕ) → getD d k 0 < 256) → (buffer : List ℕ) {m : Made} → m ≡ made op options d buffer
+    → PacketMade op options d buffer m
+make-promised op options d bytes buffer e =
     let n : ℕ = first (makeRefusals op (optionsIn options) d (length buffer)) in
     let by = made-by op options d buffer n refl in
     rw e
@@ -57,6 +91,8 @@ make-promised op options d buffer e =
       reads-back = reads-as-made op options d buffer;
       short = λ h. ap (λ (m : Made). m .status) (made-small op options d buffer h);
       refusal = refuses-as-read op options d buffer;
+      command-number = make-command op options d buffer;
+      located = make-located op options d bytes buffer;
       unknown = λ h room fit.
           ap (λ (m : Made). m .status) (made-judged op options d buffer room fit 7 (beyond-7 op (optionsIn options) d h));
       refused = rw by (refused op (optionsIn options) d buffer n (eqb n 0) refl);

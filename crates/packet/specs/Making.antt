@@ -10,7 +10,7 @@ use Rattle.wire.specs.Checksum.{sealed}
 use Rattle.wire.specs.First.{first}
 use Rattle.wire.specs.Buffers.{over}
 use Rattle.opcode.specs.Options.{twoByte, hasLength, hasSum, optionsIn}
-use Rattle.opcode.specs.Judgement.{judgement}
+use Rattle.opcode.specs.Judgement.{judgement, faultPlace}
 use Rattle.packet.specs.Frame.{fields}
 
 -- Bytes that an option asks for.
@@ -29,9 +29,10 @@ packetOf op o d = sealed (eqb (hasSum o) 1) (headBytes op o (length d) ++ d)
 abbrev pub makeRefusals : ℕ → ℕ → List ℕ → ℕ → List (ℕ × Bool)
 makeRefusals op o d room = (1, ltb room 512) ∷ (3, ltb 512 (fields o + length d)) ∷ judgement op o d
 
--- Rule 4.4: what making answers, and the buffer as it is left.
+-- Rule 4.4: what making answers, with the place of a refusal by 10 (rule 4.6), and the buffer as it is left.
 pub record Made : Type 0 where
   pub status : ℕ
+  pub fault : ℕ
   pub size : ℕ
   pub buffer : List ℕ
 
@@ -39,8 +40,8 @@ pub record Made : Type 0 where
 abbrev pub madeBy : ℕ → ℕ → ℕ → List ℕ → List ℕ → Made
 madeBy n op o d buffer =
     cond (eqb n 0)
-    (record { status = 0; size = length (packetOf op o d); buffer = over (packetOf op o d) buffer })
-    (record { status = n; size = 0; buffer = buffer })
+    (record { status = 0; fault = 0; size = length (packetOf op o d); buffer = over (packetOf op o d) buffer })
+    (record { status = n; fault = faultPlace n op o d; size = 0; buffer = buffer })
 
 -- Rule 2.2: of the options only bits 3 to 7 are looked at.
 unfoldable pub made : ℕ → ℕ → List ℕ → List ℕ → Made

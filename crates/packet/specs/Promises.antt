@@ -7,7 +7,9 @@ use mathlib.Core.List.{List}
 use lib.ListN.{length, take, drop}
 use Rattle.wire.specs.Buffers.{over}
 use Rattle.opcode.specs.Options.{optionsIn}
-use Rattle.packet.specs.Frame.{place, fields, dataOf}
+use Rattle.opcode.specs.Faults.{Located}
+use Rattle.opcode.specs.Numbers.{CommandNumber}
+use Rattle.packet.specs.Frame.{opcodeOf, optionsOf, place, fields, dataOf}
 use Rattle.packet.specs.Reading.{commandAt, Answer, reading}
 use Rattle.packet.specs.Sound.{Taken, FrameNumber}
 use Rattle.packet.specs.Making.{packetOf, Made, made}
@@ -19,7 +21,7 @@ dataRead a p = take (a .size) (drop (a .place) p)
 -- Rule 4.5: an accepted packet, made again from its reading, has the same bytes.
 abbrev pub MadeAgain : List ℕ → Answer → List ℕ → Type 0
 MadeAgain p a buffer =
-    made (a .opcode) (a .options) (dataRead a p) buffer ≡ record { status = 0; size = length p; buffer = over p buffer }
+    made (a .opcode) (a .options) (dataRead a p) buffer ≡ record { status = 0; fault = 0; size = length p; buffer = over p buffer }
 
 -- Rule 2.6: reading, of its answer to a packet.
 pub record PacketRead (p : List ℕ) (a : Answer) : Type 0 where
@@ -27,6 +29,10 @@ pub record PacketRead (p : List ℕ) (a : Answer) : Type 0 where
   -- Taken exactly if the frame is sound and meant for us, and the data is allowed.
   pub exactly : (a .number ≡ 0) ↔ Taken p
   pub frame-number : FrameNumber p (a .number)
+  -- Rule 4.1: which of 7 to 11 is given, said apart from the tests.
+  pub command-number : CommandNumber (opcodeOf p) (optionsOf p) (dataOf p) (a .number)
+  -- Rule 4.6: a refusal by 10 has the place of the first fault, any other none.
+  pub located : Located (opcodeOf p) (optionsOf p) (dataOf p) (a .number) (a .fault)
   pub again : a .number ≡ 0 → (buffer : List ℕ) → 512 ≤ length buffer → MadeAgain p a buffer
 
 -- Rule 4.5: what was made reads back as the command and the options that it was made from, and its data byte for byte.
@@ -39,10 +45,14 @@ pub record ReadsAsMade (op options : ℕ) (d : List ℕ) (m : Made) : Type 0 whe
 pub record PacketMade (op options : ℕ) (d buffer : List ℕ) (m : Made) : Type 0 where
   pub outcome : m ≡ made op options d buffer
   pub reads-back : m .status ≡ 0 → ReadsAsMade op options d m
-  -- Refused with 1 for a short buffer, else with what reading gives for the packet; an opcode over 255, of which there is no packet
-  -- that could be sent, is 7.
+  -- Refused with 1 for a short buffer, else with what reading gives for the packet, and its place with it; an opcode over 255, of which there is no
+  -- packet that could be sent, is 7.
   pub short : length buffer < 512 → m .status ≡ 1
-  pub refusal : 512 ≤ length buffer → m .status ≡ reading (packetOf op (optionsIn options) d) .number
+  pub refusal : 512 ≤ length buffer → (m .status ≡ reading (packetOf op (optionsIn options) d) .number)
+      × (m .fault ≡ reading (packetOf op (optionsIn options) d) .fault)
+  -- Rule 4.1: which of 7 to 11 is given, said apart from the tests.
+  pub command-number : CommandNumber op (optionsIn options) d (m .status)
+  pub located : Located op (optionsIn options) d (m .status) (m .fault)
   pub unknown : 255 < op → 512 ≤ length buffer → fields (optionsIn options) + length d ≤ 512 → m .status ≡ 7
   -- A refusal writes nothing, and what is made leaves the buffer behind it.
   pub refused : (m .status ≡ 0 → ⊥) → (m .size ≡ 0) × (m .buffer ≡ buffer)

@@ -8,7 +8,7 @@ use Rattle.wire.specs.Numbers.{byteAt, wordAt}
 use Rattle.wire.specs.Checksum.{checksum}
 use Rattle.wire.specs.First.{first}
 use Rattle.opcode.specs.Options.{hasLength, hasSum, destination}
-use Rattle.opcode.specs.Judgement.{judgement}
+use Rattle.opcode.specs.Judgement.{judgement, faultPlace}
 use Rattle.packet.specs.Frame.{headerOf, opcodeOf, optionsOf, lengthPlace, place, fields, dataSize, dataOf}
 use Rattle.packet.specs.declared.Reading.{Reading}
 use Rattle.packet.specs.declared.Reading.the-variants.{Command, Refused}
@@ -48,24 +48,29 @@ frameRefusals p =
 abbrev pub refusals : List ℕ → List (ℕ × Bool)
 refusals p = frameRefusals p ++ judgement (opcodeOf p) (optionsOf p) (dataOf p)
 
--- Rule 2.6: the refusal, 0 for none; then opcode, options (header bits 3 to 7 in place; bit 7 says read or write), the place
--- of the data and its size. All 0 but the number if refused.
+-- Rule 4.6: the place that a refusal of a packet names, its offset in the data.
+abbrev pub faultOf : ℕ → List ℕ → ℕ
+faultOf n p = faultPlace n (opcodeOf p) (optionsOf p) (dataOf p)
+
+-- Rule 2.6: the refusal, 0 for none, and the place of its fault (rule 4.6); then opcode, options (header bits 3 to 7 in place; bit 7 says read or
+-- write), the place of the data and its size, which are all 0 if refused.
 pub record Answer : Type 0 where
   pub number : ℕ
+  pub fault : ℕ
   pub opcode : ℕ
   pub options : ℕ
   pub place : ℕ
   pub size : ℕ
 
 abbrev pub commandAt : ℕ → ℕ → ℕ → ℕ → Answer
-commandAt opcode options at size = record { number = 0; opcode = opcode; options = options; place = at; size = size }
+commandAt opcode options at size = record { number = 0; fault = 0; opcode = opcode; options = options; place = at; size = size }
 
-abbrev pub refusedBy : ℕ → Answer
-refusedBy n = record { number = n; opcode = 0; options = 0; place = 0; size = 0 }
+abbrev pub refusedBy : ℕ → ℕ → Answer
+refusedBy n fault = record { number = n; fault = fault; opcode = 0; options = 0; place = 0; size = 0 }
 
 abbrev pub answered : ℕ → List ℕ → Answer
 answered n p =
-    cond (eqb n 0) (commandAt (opcodeOf p) (optionsOf p) (place (headerOf p)) (dataSize p)) (refusedBy n)
+    cond (eqb n 0) (commandAt (opcodeOf p) (optionsOf p) (place (headerOf p)) (dataSize p)) (refusedBy n (faultOf n p))
 
 -- Rule 2.6: the first refusal that applies, or the command.
 unfoldable pub reading : List ℕ → Answer
@@ -74,4 +79,4 @@ reading p = answered (first (refusals p)) p
 -- Number and values of each case of the code's answer.
 abbrev pub answer : Reading → Answer
 answer (Command opcode options at size) = commandAt opcode options at size
-answer (Refused why) = refusedBy (why .number)
+answer (Refused why) = refusedBy (why .number) (why .fault)

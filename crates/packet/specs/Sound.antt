@@ -1,6 +1,7 @@
 -- When a packet's frame is sound, said as rules 2.1 to 2.5 say it and not by way of the refusals.
 use Prim.Native.Nat.{ℕ, _-_, _≤_, _<_}
 use mathlib.Core.Path.{_≡_}
+use mathlib.Core.Logic.{_⊎_}
 use mathlib.Core.List.{List}
 use lib.ListN.{length, take}
 use Rattle.wire.specs.Numbers.{byteAt, wordAt}
@@ -34,3 +35,4 @@ pub record FrameNumber (p : List ℕ) (number : ℕ) : Type 0 where
   pub five : fields (headerOf p) ≤ length p → length p ≤ 512 → (hasLength (headerOf p) ≡ 1 → wordAt p (lengthPlace (headerOf p)) ≡ dataSize p)
       → hasSum (headerOf p) ≡ 1 → (byteAt p (length p - 1) ≡ checksum (take (length p - 1) p) → ⊥) → number ≡ 5
   pub six : Sound p → (destination (headerOf p) ≡ 4 → ⊥) → number ≡ 6
+  pub past-six : Sound p → destination (headerOf p) ≡ 4 → (number ≡ 0) ⊎ (6 < number)

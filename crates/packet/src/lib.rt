@@ -33,7 +33,7 @@ pub enum Reading {
 impl Reading {
     // Why there is no command; number 0 where there is one.
     pub fn refusal(self) -> Refusal
-        ensures { λ r. ⌜ r .number ≡ answer self .number ⌝ }
+        ensures { λ r. ⌜ (r .number ≡ answer self .number) × (r .fault ≡ answer self .fault) ⌝ }
     {
         match self {
             Reading::Refused(why) => why,
@@ -156,7 +156,7 @@ pub fn read(packet: &[u8]) -> Reading
 
 // The refusal of a frame, as a reading.
 fn refused(frame: Frame) -> Reading
-    ensures { λ r. ⌜ answer r ≡ refusedBy (frameAnswer frame .number) ⌝ }
+    ensures { λ r. ⌜ answer r ≡ refusedBy (frameAnswer frame .number) (frameAnswer frame .fault) ⌝ }
 {
     match frame {
         Frame::Broken(why) => Reading::Refused(why),
@@ -170,7 +170,7 @@ fn refused(frame: Frame) -> Reading
 }
 
 fn broken(number: u8) -> Frame
-    ensures { λ r. ⌜ frameAnswer r ≡ refusedBy number ⌝ }
+    ensures { λ r. ⌜ frameAnswer r ≡ refusedBy number 0 ⌝ }
 {
     Frame::Broken(Refusal::by(number))
 }
@@ -237,33 +237,36 @@ fn sum_differs(packet: &[u8], header: usize) -> bool
     wire::byte(packet, packet.len() - 1) != wire::checksum(packet, packet.len() - 1)
 }
 
-// What making answers (rule 4.4): a status, the refusal's number or 0, and the packet's size, 0 if refused.
+// What making answers (rule 4.4): why it refused, number 0 where it did not, and the packet's size, 0 if refused.
 pub struct Made {
-    pub status: u8,
+    pub why: Refusal,
     pub size: usize,
 }
 
 // Makes a packet in the buffer: any opcode, any options (header bits 3 to 7 in place, the others not looked at), any data, any buffer.
 pub fn make(opcode: u16, options: u8, data: &[u8], buffer: &mut [u8]) -> Made
     ensures { λ r. ⌜ PacketMade opcode options (now («data» .entry)) (now (buffer .entry))
-        (record { status = r .status; size = r .size; buffer = now (buffer .exit) }) ⌝ }
+        (record { status = r .why .number; fault = r .why .fault; size = r .size; buffer = now (buffer .exit) }) ⌝ }
 {
     if buffer.len() < LONGEST {
-        return Made { status: 1, size: 0 };
-    }
-    let o = options as usize / 8 * 8;
-    if LONGEST - fields(o) < data.len() {
-        return Made { status: 3, size: 0 };
-    }
-    let why = opcode::judge(opcode as usize, o, data);
-    if why.number != 0 {
         return Made {
-            status: why.number,
+            why: wire::LENT_WRONG,
             size: 0,
         };
     }
+    let o = options as usize / 8 * 8;
+    if LONGEST - fields(o) < data.len() {
+        return Made {
+            why: wire::TOO_LONG,
+            size: 0,
+        };
+    }
+    let why = opcode::judge(opcode as usize, o, data);
+    if why.number != 0 {
+        return Made { why, size: 0 };
+    }
     let size = write_packet(buffer, opcode as usize, o, data);
-    Made { status: 0, size }
+    Made { why, size }
 }
 
 // Writes a packet that fits, field by field, and answers its size.

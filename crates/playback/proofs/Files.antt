@@ -17,7 +17,8 @@ use Rattle.text.proofs.Forms.{decimal-right, hex-right, decimal-first, length-d
 use Rattle.settings.specs.Reset.{resetShape, resetBlock, resetMap, resetGains}
 use Rattle.settings.proofs.Allowed.{reset-allowed}
 use Rattle.controller.specs.State.{State, resetState}
-use Rattle.controller.specs.Step.{Out, out, emptyReply, step}
+use Rattle.packet.specs.Reading.{faultOf}
+use Rattle.controller.specs.Step.{Out, out, statusReply, step}
 use Rattle.controller.specs.Calls.{stateAfterAll}
 use Rattle.controller.specs.Demands.{LentRight}
 use Rattle.controller.proofs.Demands.{runs, right-running, demand1}
@@ -314,16 +315,17 @@ module _ (p : List ℕ) (s : State) (l : LentRight s replyBuffer) (long : 512 < 
   unfolding step
   long-status = number-long p p s replyBuffer long long refl p long ∙ rw (runs s replyBuffer (right-running l))
 
-  long-out : step p s replyBuffer ≡ out 3 (length (emptyReply 3 p)) s (over (emptyReply 3 p) replyBuffer)
+  long-out : step p s replyBuffer ≡ out 3 0 (length (statusReply 3 0 p)) s (over (statusReply 3 0 p) replyBuffer)
+  unfolding step
   long-out =
       demand1 p s replyBuffer .refused l (λ none. omega (arith, long-status))
-      ∙ ap (λ (n : ℕ). out n (length (emptyReply n p)) s (over (emptyReply n p) replyBuffer)) long-status
+      ∙ ap (λ (n : ℕ). out n (faultOf n p) (length (statusReply n (faultOf n p) p)) s (over (statusReply n (faultOf n p) p) replyBuffer)) long-status
 
   pub over-long : OverLong p s
   over-long =
       record {
         status = long-status;
         unchanged = ap (λ (o : Out). o .state) long-out;
-        reply = ap (λ (o : Out). take (o .size) (o .reply)) long-out ∙ take-over (emptyReply 3 p) replyBuffer;
+        reply = ap (λ (o : Out). take (o .size) (o .reply)) long-out ∙ take-over (statusReply 3 0 p) replyBuffer;
         front = λ n. front-line n p s replyBuffer (omega (arith, length-buffer));
       }

@@ -91,12 +91,12 @@ status-small p s reply = go (stopped s reply)
     go true = omega arith
     go false = placed-number p (s .block) .small
 
-pub answer-done : {packet : List ℕ} {q p : Progress} {s s' : State} {reply reply' buffer buffer' : List ℕ} {status size : ℕ}
-    → out status size s' reply' ≡ step packet s reply → Puts (q .size) (line (q .number + 1) status (take size reply')) buffer buffer' (p .size)
+pub answer-done : {packet : List ℕ} {q p : Progress} {s s' : State} {reply reply' buffer buffer' : List ℕ} {status fault size : ℕ}
+    → out status fault size s' reply' ≡ step packet s reply → Puts (q .size) (line (q .number + 1) status (take size reply')) buffer buffer' (p .size)
     → p .size ≤ q .size + lineRoom → Decimal (q .number + 1) (decimal (q .number + 1)) → Decimal status (decimal status)
     → Hex (take size reply') (hex (take size reply')) → p .number ≡ q .number + 1 → p .at ≡ q .at → p .marked ≡ q .marked → p .have ≡ q .have
     → Answered packet q s reply buffer p s' buffer'
-answer-done {packet} {q} {p} {s} {s'} {reply} {reply'} {buffer} {buffer'} {status} {size} e put fits a b c number at marked have =
+answer-done {packet} {q} {p} {s} {s'} {reply} {reply'} {buffer} {buffer'} {status} {fault} {size} e put fits a b c number at marked have =
     let small : status ≤ 12 = rw (ap (λ (o : Out). o .status) e) (status-small packet s reply) in
     record {
       state = ap (λ (o : Out). o .state) e;
@@ -196,10 +196,10 @@ pub some-room : (size long : ℕ) → lineRoom ≤ long → size ≤ long - line
 some-room size long h k = omega arith
 
 -- A reply lies in its buffer, and is no longer than any may be.
-pub reply-fits : (packet : List ℕ) (s : State) (reply : List ℕ) {s' : State} {reply' : List ℕ} {status size : ℕ} → out status size s' reply' ≡ step packet s reply
+pub reply-fits : (packet : List ℕ) (s : State) (reply : List ℕ) {s' : State} {reply' : List ℕ} {status fault size : ℕ} → out status fault size s' reply' ≡ step packet s reply
     → (size ≤ length reply') × (size ≤ 512)
 unfolding step over
-reply-fits packet s reply {s'} {reply'} {status} {size} e =
+reply-fits packet s reply {s'} {reply'} {status} {fault} {size} e =
     let number : ℕ = numberOf packet s reply in
     let bytes : List ℕ = replyTo number packet s in
     let long : size ≡ length bytes = ap (λ (o : Out). o .size) e in

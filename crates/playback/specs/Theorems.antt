@@ -5,7 +5,7 @@ use mathlib.Core.Logic.{_↔_}
 use mathlib.Core.List.{List, [], _∷_, _++_}
 use lib.ListN.{length, take, drop, getD}
 use Rattle.controller.specs.State.{State, resetState}
-use Rattle.controller.specs.Step.{emptyReply, step}
+use Rattle.controller.specs.Step.{statusReply, step}
 use Rattle.controller.specs.Demands.{LentRight}
 use Rattle.text.specs.Text.{Decimal, Hex}
 use Rattle.records.specs.Session.{mark, fileRun, Splits}
@@ -74,7 +74,7 @@ pub record Recorded (packets : List (List ℕ)) (h : List ℕ) (file : List ℕ)
 pub record OverLong (p : List ℕ) (s : State) : Type 0 where
   pub status : step p s replyBuffer .status ≡ 3
   pub unchanged : step p s replyBuffer .state ≡ s
-  pub reply : take (step p s replyBuffer .size) (step p s replyBuffer .reply) ≡ emptyReply 3 p
+  pub reply : take (step p s replyBuffer .size) (step p s replyBuffer .reply) ≡ statusReply 3 0 p
   pub front : (n : ℕ) → lineOf n (step (take 513 p) s replyBuffer) ≡ lineOf n (step p s replyBuffer)
 
 -- Rule 9.8: the bench session, and what it prints: `1 0`, `2 0 00 01 00 01`, `3 10`, `end 3`.

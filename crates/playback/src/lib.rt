@@ -151,7 +151,7 @@ fn answer(
 {
     let o = controller16::handle(packet, block, staged, live, gains, reply);
     let number = q.number + 1;
-    let size = put_line(out, q.size, number, o.status as u64, reply, o.size);
+    let size = put_line(out, q.size, number, o.why.number as u64, reply, o.size);
     Progress {
         at: q.at,
         size,

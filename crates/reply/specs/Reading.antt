@@ -53,7 +53,7 @@ replyReading r sum = replyAnswered (first (replyRefusals r sum)) r sum
 -- Number and values of each case of the code's answer.
 abbrev pub replyAnswer : ReplyReading → ReplyAnswer
 replyAnswer (Reply status at size) = record { number = 0; status = status; place = at; size = size }
-replyAnswer (Refused why) = replyRefusedBy (why .number)
+replyAnswer (Refused number) = replyRefusedBy number
 
 -- Rule 3.5: which bytes are a reply, apart from the tests that decide it.
 pub record ReplyTaken (r : List ℕ) (sum : Bool) : Type 0 where

@@ -1,6 +1,5 @@
 // Replies: writing one behind its three-byte head, and reading one on the host's side.
 use wire::LONGEST;
-use wire::Refusal;
 ghost use mathlib.Core.Path.{_≡_};
 ghost use Prim.Native.Nat.{_+_, _<_, _≤_};
 ghost use lib.ListN.{length, take, drop};
@@ -8,24 +7,24 @@ ghost use Rattle.wire.specs.Buffers.{Overwrites};
 ghost use Rattle.reply.specs.Reply.{replyBytes};
 ghost use Rattle.reply.specs.Reading.{replyAnswer, replyRefusedBy, ReplyRead, sumSize, sumWrong};
 
-// What a reply says: its status, and the place and the size of its data; or why it is none.
+// What a reply says: its status, and the place and the size of its data; or the number of why it is none, which names no place.
 pub enum ReplyReading {
     Reply { status: u8, at: usize, size: usize },
-    Refused(Refusal),
+    Refused(u8),
 }
 
 impl ReplyReading {
-    // Why it is none; number 0 where it is one.
-    pub fn refusal(self) -> Refusal
-        ensures { λ r. ⌜ r .number ≡ replyAnswer self .number ⌝ }
+    // Why it is none; 0 where it is one.
+    pub fn refusal(self) -> u8
+        ensures { λ r. ⌜ r ≡ replyAnswer self .number ⌝ }
     {
         match self {
-            ReplyReading::Refused(why) => why,
+            ReplyReading::Refused(number) => number,
             ReplyReading::Reply {
                 status: _,
                 at: _,
                 size: _,
-            } => Refusal::by(0),
+            } => 0,
         }
     }
 }
@@ -83,7 +82,7 @@ fn sum_wrong(reply: &[u8], sum: bool) -> bool
 fn refused(number: u8) -> ReplyReading
     ensures { λ r. ⌜ replyAnswer r ≡ replyRefusedBy number ⌝ }
 {
-    ReplyReading::Refused(Refusal::by(number))
+    ReplyReading::Refused(number)
 }
 
 // Puts the head before n bytes of data that stand at place 3, and the checksum behind them if sum is set. Answers the reply's length.

@@ -1,3 +1,4 @@
 pub mod Walk
+pub mod Places
 pub mod Right
 pub mod Expand

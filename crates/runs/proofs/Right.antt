@@ -1,18 +1,19 @@
 -- The index of the first word at fault is the list's length exactly if none is.
-use Prim.Native.Nat.{ℕ, zero, suc, _*_, _%_, _≤_}
+use Prim.Native.Nat.{ℕ, suc, _*_, _%_, _≤_}
 use mathlib.Core.Path.{_≡_, refl, ap}
 use mathlib.Core.List.{List, [], _∷_}
 use mathlib.Core.Bool.{Bool, true, false, cond, not, _&&_}
-use native.Mathlib.Decide.{decLe}
+use native.Mathlib.Decide.{decLe, decLt}
 use native.Mathlib.Omega.{arith}
 use borrow.Author.Tests.{leb-true, le-leb, lt-leb}
-use lib.ListN.{length, drop, getD, length-drop}
+use lib.ListN.{length, drop, getD, length-drop, List·getD-eq-default}
 use lib.Dec.{leb}
 use Rattle.wire.specs.Tables.{words}
 use Rattle.wire.proofs.Tables.{length-pairs}
 use Rattle.wire.proofs.Tests.{told}
 use Rattle.runs.specs.Gains.{mostGain, firstLarge}
 use Rattle.runs.specs.Pairs.{colourGains, Pairs, none, pair, runWrong, pairFault}
+use Rattle.runs.proofs.Places.{gains-first}
 
 -- Gains.
 pub small-gains : (ws : List ℕ) → ((k : ℕ) → getD ws k 0 ≤ 8191) → firstLarge ws ≡ length ws
@@ -20,18 +21,10 @@ unfolding firstLarge
 small-gains [] h = refl
 small-gains (w ∷ ws) h = rw (le-leb w mostGain (omega (arith, h 0))) (ap suc (small-gains ws (λ k. h (suc k))))
 
-first-small : (w : ℕ) (ws : List ℕ) → length (w ∷ ws) ≤ firstLarge (w ∷ ws) → (w ≤ 8191) × (length ws ≤ firstLarge ws)
-unfolding firstLarge
-first-small w ws h = go (leb w mostGain) refl h
-  where
-    go : (small : Bool) → leb w mostGain ≡ small → length (w ∷ ws) ≤ cond small (suc (firstLarge ws)) 0 → (w ≤ 8191) × (length ws ≤ firstLarge ws)
-    go true e h = omega (arith, leb-true w mostGain e)
-    go false e h = absurd (omega arith)
-
 pub gains-small : (ws : List ℕ) → length ws ≤ firstLarge ws → (k : ℕ) → getD ws k 0 ≤ 8191
-gains-small [] h k = omega arith
-gains-small (w ∷ ws) h zero = first-small w ws h .0
-gains-small (w ∷ ws) h (suc k) = gains-small ws (first-small w ws h .1) k
+gains-small ws h k =
+    elim (decLt k (length ws))
+    [ yes l ↦ gains-first ws .before k (omega arith) .1 | no l ↦ omega (arith, List·getD-eq-default ws 0 {n = k} (omega arith)) ]
 
 large-few : (ws : List ℕ) → firstLarge ws ≤ length ws
 unfolding firstLarge

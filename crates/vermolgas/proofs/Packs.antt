@@ -6,11 +6,12 @@ use mathlib.Core.Bool.{Bool}
 use mathlib.Core.List.{List}
 use native.Mathlib.Omega.{arith}
 use borrow.Author.Tests.{ne-eqb}
-use Rattle.packet.specs.Reading.{Answer}
+use Rattle.packet.specs.Reading.{Answer, commandAt, refusedBy}
 use Rattle.packet.specs.Making.{Made}
 use Rattle.packet.specs.Promises.{PacketRead, PacketMade}
+use Rattle.packet.proofs.Frames.{refused-some}
 use Rattle.reply.specs.Reading.{ReplyAnswer, replyRefusedBy, ReplyRead}
-use Rattle.controller8.specs.Bytes.{Lent, LentOut, lentOut, HandledBytes}
+use Rattle.controller8.specs.Bytes.{Lent, LentOut, HandledBytes}
 use Rattle.vermolgas.specs.Packed.{packedReading, readingIn, PackedRead, packedMade, madeIn, PackedMake, packedReply, replyIn, PackedReplyRead}
 use Rattle.vermolgas.specs.Packed.{packedOut, outIn, PackedHandled}
 
@@ -18,26 +19,53 @@ use Rattle.vermolgas.specs.Packed.{packedOut, outIn, PackedHandled}
 shed : (low rest : ℕ) {n : ℕ} → low < 256 → n ≡ low + 256 * rest → n % 256 ≡ low
 shed low rest h e = omega arith
 
-pub read-packed : (p : List ℕ) (n : ℕ) (a : Answer) → n ≡ packedReading a → a .number < 256 → a .opcode < 256 → a .options < 256 → a .place < 256
-    → PacketRead p a → PackedRead p n
-read-packed p n a e hn hop ho hat r =
-    let number : n % 256 ≡ a .number = omega arith in
-    let from-8 : n / 256 ≡ a .opcode + 256 * a .options + 65536 * a .place + 16777216 * a .size = omega arith in
-    let opcode : n / 256 % 256 ≡ a .opcode = rw from-8 (shed (a .opcode) (a .options + 256 * a .place + 65536 * a .size) hop (omega arith)) in
-    let from-16 : n / 65536 ≡ a .options + 256 * a .place + 65536 * a .size = omega arith in
-    let options : n / 65536 % 256 ≡ a .options = rw from-16 (shed (a .options) (a .place + 256 * a .size) ho (omega arith)) in
-    let from-24 : n / 16777216 ≡ a .place + 256 * a .size = omega arith in
-    let place : n / 16777216 % 256 ≡ a .place = rw from-24 (shed (a .place) (a .size) hat (omega arith)) in
-    let size : n / 4294967296 ≡ a .size = omega arith in
-    let again : readingIn n ≡ a = rw (number, opcode, options, place, size) in
+pub read-packed : (p : List ℕ) (n op o at size : ℕ) → n ≡ packedReading (commandAt op o at size) → op < 256 → o < 256 → at < 256
+    → PacketRead p (commandAt op o at size) → PackedRead p n
+read-packed p n op o at size e hop ho hat r =
+    let number : n % 256 ≡ 0 = omega arith in
+    let from-8 : n / 256 ≡ op + 256 * o + 65536 * at + 16777216 * size = omega arith in
+    let opcode : n / 256 % 256 ≡ op = rw from-8 (shed op (o + 256 * at + 65536 * size) hop (omega arith)) in
+    let from-16 : n / 65536 ≡ o + 256 * at + 65536 * size = omega arith in
+    let options : n / 65536 % 256 ≡ o = rw from-16 (shed o (at + 256 * size) ho (omega arith)) in
+    let from-24 : n / 16777216 ≡ at + 256 * size = omega arith in
+    let place : n / 16777216 % 256 ≡ at = rw from-24 (shed at size hat (omega arith)) in
+    let long : n / 4294967296 ≡ size = omega arith in
+    let again : readingIn n ≡ commandAt op o at size = rw (number, opcode, options, place, long) in
     record { packed = e ∙ ap packedReading (r .outcome); promise = subst (λ (a : Answer). PacketRead p a) (sym again) r }
 
-pub make-packed : (op options : ℕ) (d buffer : List ℕ) (n : ℕ) (m : Made) → n ≡ packedMade m → m .status < 256
+-- A refusal's number is not 0, so that what stands from 32 on is its place.
+pub read-refused : (p : List ℕ) (n number fault : ℕ) → n ≡ number + 4294967296 * fault → number < 256
+    → PacketRead p (refusedBy number fault) → PackedRead p n
+read-refused p n number fault e h r =
+    let some = refused-some p number fault (r .outcome) in
+    let low : n % 256 ≡ number = omega arith in
+    let from-8 : n / 256 ≡ 16777216 * fault = omega arith in
+    let opcode : n / 256 % 256 ≡ 0 = rw from-8 (shed 0 (65536 * fault) (omega arith) (omega arith)) in
+    let from-16 : n / 65536 ≡ 65536 * fault = omega arith in
+    let options : n / 65536 % 256 ≡ 0 = rw from-16 (shed 0 (256 * fault) (omega arith) (omega arith)) in
+    let from-24 : n / 16777216 ≡ 256 * fault = omega arith in
+    let place : n / 16777216 % 256 ≡ 0 = rw from-24 (shed 0 fault (omega arith) (omega arith)) in
+    let high : n / 4294967296 ≡ fault = omega arith in
+    let again : readingIn n ≡ refusedBy number fault = rw (low, opcode, options, place, high, ne-eqb number 0 some) in
+    let same : n ≡ packedReading (refusedBy number fault) = omega arith in
+    record { packed = same ∙ ap packedReading (r .outcome); promise = subst (λ (a : Answer). PacketRead p a) (sym again) r }
+
+-- A status, a size and a place, side by side.
+record Parted (n status size fault : ℕ) : Type 0 where
+  low : n % 256 ≡ status
+  middle : n / 256 % 16777216 ≡ size
+  high : n / 4294967296 ≡ fault
+
+parted : (n status size fault : ℕ) → n ≡ status + 256 * size + 4294967296 * fault → status < 256 → size < 16777216 → Parted n status size fault
+parted n status size fault e h k =
+    let from-8 : n / 256 ≡ size + 16777216 * fault = omega arith in
+    record { low = omega arith; middle = rw from-8 (omega arith); high = omega arith }
+
+pub make-packed : (op options : ℕ) (d buffer : List ℕ) (n : ℕ) (m : Made) → n ≡ packedMade m → m .status < 256 → m .size < 16777216
     → PacketMade op options d buffer m → PackedMake op options d buffer n (m .buffer)
-make-packed op options d buffer n m e h r =
-    let status : n % 256 ≡ m .status = omega arith in
-    let size : n / 256 ≡ m .size = omega arith in
-    let again : madeIn n (m .buffer) ≡ m = rw (status, size) in
+make-packed op options d buffer n m e h k r =
+    let parts = parted n (m .status) (m .size) (m .fault) e h k in
+    let again : madeIn n (m .buffer) ≡ m = rw (parts .low, parts .middle, parts .high) in
     record { packed = e ∙ ap packedMade (r .outcome); promise = subst (λ (m : Made). PacketMade op options d buffer m) (sym again) r }
 
 module _ (r : List ℕ) (sum : Bool) (n : ℕ) where
@@ -63,14 +91,13 @@ module _ (r : List ℕ) (sum : Bool) (n : ℕ) where
       let same : n ≡ packedReply (replyRefusedBy n) = omega arith in
       record { packed = same ∙ ap packedReply (read .outcome); promise = subst (λ (a : ReplyAnswer). ReplyRead r sum a) (sym again) read }
 
-pub out-packed : (p : List ℕ) (l : Lent) (reply : List ℕ) (n : ℕ) (o : LentOut) → n ≡ packedOut o → o .status < 256
+pub out-packed : (p : List ℕ) (l : Lent) (reply : List ℕ) (n : ℕ) (o : LentOut) → n ≡ packedOut o → o .status < 256 → o .size < 16777216
     → HandledBytes p l reply o → PackedHandled p l reply n (o .lent) (o .reply)
-out-packed p l reply n o e h r =
-    let status : n % 256 ≡ o .status = omega arith in
-    let size : n / 256 ≡ o .size = omega arith in
-    let again : outIn n (o .lent) (o .reply) ≡ o = rw (status, size) in
+out-packed p l reply n o e h k r =
+    let parts = parted n (o .status) (o .size) (o .fault) e h k in
+    let again : outIn n (o .lent) (o .reply) ≡ o = rw (parts .low, parts .middle, parts .high) in
     record {
       packed = e ∙ ap packedOut (r .outcome);
-      unchanged = λ some. r .unchanged (λ z. some (status ∙ z));
+      unchanged = λ some. r .unchanged (λ z. some (parts .low ∙ z));
       promise = subst (λ (o : LentOut). HandledBytes p l reply o) (sym again) r;
     }

@@ -1,4 +1,4 @@
--- How the C entries pack an answer, status and lengths, into one number of 64 bits; docs/INTERFACE.md has the table.
+-- How the C entries pack an answer, status, lengths and place, into one number of 64 bits; docs/INTERFACE.md has the table.
 use Prim.Native.Nat.{ℕ, _+_, _*_, _/_, _%_}
 use mathlib.Core.Path.{_≡_}
 use mathlib.Core.Bool.{Bool, cond}
@@ -17,20 +17,21 @@ use Rattle.upload.specs.Planning.{Sheets, PlanOut, planOut, plannedBytes, Plann
 -- ---- Reading, rule 2.6.
 
 -- The refusal in bits 0-7; opcode in 8-15, header bits 3-7 in place in 16-23, offset of the data in 24-31, data length from 32 on. An answer
--- that is a refusal has 0 in all of these.
+-- that is a refusal has 0 in all of these, but from 32 on the place of its fault, which is 0 too unless it is 10.
 abbrev pub packedReading : Answer → ℕ
 packedReading a =
-    a .number + 256 * a .opcode + 65536 * a .options + 16777216 * a .place + 4294967296 * a .size
+    a .number + 256 * a .opcode + 65536 * a .options + 16777216 * a .place + 4294967296 * (a .size + a .fault)
 
 -- The same taken apart, as C does.
 abbrev pub readingIn : ℕ → Answer
 readingIn n =
     record {
       number = n % 256;
+      fault = cond (eqb (n % 256) 0) 0 (n / 4294967296);
       opcode = n / 256 % 256;
       options = n / 65536 % 256;
       place = n / 16777216 % 256;
-      size = n / 4294967296;
+      size = cond (eqb (n % 256) 0) (n / 4294967296) 0;
     }
 
 pub record PackedRead (p : List ℕ) (answer : ℕ) : Type 0 where
@@ -39,12 +40,12 @@ pub record PackedRead (p : List ℕ) (answer : ℕ) : Type 0 where
 
 -- ---- Making, rule 4.4.
 
--- Status in bits 0-7, the packet's length from 8 on.
+-- Status in bits 0-7, the packet's length in 8-31, the place of the fault from 32 on.
 abbrev pub packedMade : Made → ℕ
-packedMade m = m .status + 256 * m .size
+packedMade m = m .status + 256 * m .size + 4294967296 * m .fault
 
 abbrev pub madeIn : ℕ → List ℕ → Made
-madeIn n left = record { status = n % 256; size = n / 256; buffer = left }
+madeIn n left = record { status = n % 256; fault = n / 4294967296; size = n / 256 % 16777216; buffer = left }
 
 pub record PackedMake (op options : ℕ) (d buffer : List ℕ) (answer : ℕ) (left : List ℕ) : Type 0 where
   pub packed : answer ≡ packedMade (made op options d buffer)
@@ -67,14 +68,14 @@ pub record PackedReplyRead (r : List ℕ) (sum : Bool) (answer : ℕ) : Type 0 w
 
 -- ---- One packet on a state, rule 3.4.
 
--- Status in bits 0-7, the reply's length from 8 on.
+-- Status in bits 0-7, the reply's length in 8-31, the place of the fault from 32 on.
 abbrev pub packedOut : LentOut → ℕ
-packedOut o = o .status + 256 * o .size
+packedOut o = o .status + 256 * o .size + 4294967296 * o .fault
 
 abbrev pub outIn : ℕ → Lent → List ℕ → LentOut
-outIn n left reply = lentOut (n % 256) (n / 256) left reply
+outIn n left reply = lentOut (n % 256) (n / 4294967296) (n / 256 % 16777216) left reply
 
--- The answer and every lent list; and all that is demanded of a packet, of the status and the reply's length that C reads in the answer.
+-- The answer and every lent list; and all that is demanded of a packet, of the status, the place and the reply's length that C reads in the answer.
 pub record PackedHandled (p : List ℕ) (l : Lent) (reply : List ℕ) (answer : ℕ) (left : Lent) (after : List ℕ) : Type 0 where
   pub packed : answer ≡ packedOut (stepBytes p l reply)
   -- Rule 4.2: a status other than 0 leaves block, staged, live and gains, byte for byte, as they were.

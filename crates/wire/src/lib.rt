@@ -7,17 +7,42 @@ ghost use lib.Seq.{paste, sets};
 ghost use Rattle.wire.specs.Numbers.{byteAt, wordAt, longAt, wordBytes};
 ghost use Rattle.wire.specs.Checksum.{«checksum», ChecksumAgrees};
 
-// Why something was refused: the number of rule 4.1, 0 where nothing was.
+// Why a packet was refused: the number of rule 4.1, 0 where it was not; and on refusal 10 the place of the fault (rule 4.6), its offset in the
+// data, else 0.
 pub struct Refusal {
     pub number: u8,
+    pub fault: usize,
 }
 
+// Nothing is refused; and the refusals that need no look at a packet's bytes: something is lent wrong, and a packet is too long.
+pub const ACCEPTED: Refusal = Refusal {
+    number: 0,
+    fault: 0,
+};
+
+pub const LENT_WRONG: Refusal = Refusal {
+    number: 1,
+    fault: 0,
+};
+
+pub const TOO_LONG: Refusal = Refusal {
+    number: 3,
+    fault: 0,
+};
+
 impl Refusal {
-    // Each refusal is made here.
+    // Without a place.
     pub fn by(number: u8) -> Self
-        ensures { λ r. ⌜ r .number ≡ number ⌝ }
+        ensures { λ r. ⌜ (r .number ≡ number) × (r .fault ≡ 0) ⌝ }
     {
-        Refusal { number }
+        Refusal { number, fault: 0 }
+    }
+
+    // A value out of its range, at this place.
+    pub fn value_at(fault: usize) -> Self
+        ensures { λ r. ⌜ (r .number ≡ 10) × (r .fault ≡ fault) ⌝ }
+    {
+        Refusal { number: 10, fault }
     }
 }
 

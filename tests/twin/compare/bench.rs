@@ -2,10 +2,11 @@
 
 use twin::command::Opcode;
 use twin::packet::{self, Header, Reading};
-use twin::refusal::Refusal;
+use twin::refusal::{Refusal, Refused};
 use twin::reply::{self, Reply};
 
-use crate::counts::{Accepted, Refused};
+use crate::answers;
+use crate::counts::{Accepted, Named, Refusals};
 use crate::library::LIBRARY;
 use crate::random::Random;
 use crate::report::{hex, Report};
@@ -19,12 +20,14 @@ pub const LARGEST_ROOM: usize = 70_000;
 #[derive(Default)]
 pub struct Counts {
     pub read_accepted: Accepted,
-    pub read_refused: Refused,
+    pub read_refused: Refusals,
+    pub read_named: Named,
     pub make_accepted: Accepted,
-    pub make_refused: Refused,
+    pub make_refused: Refusals,
+    pub make_named: Named,
     /// By status, and whether a checksum was expected.
     pub reply_accepted: [[u64; 2]; 13],
-    pub reply_refused: Refused,
+    pub reply_refused: Refusals,
 }
 
 pub struct Bench {
@@ -53,20 +56,33 @@ impl Bench {
         self.report.expect(holds, what);
     }
 
-    /// `vermolgas_read` on a packet. One that is accepted is made again from its reading, and must
-    /// come out the same.
-    pub fn read(&mut self, packet: &[u8]) {
+    /// `vermolgas_read` on a packet; gives the library's answer. One that is accepted is made again
+    /// from its reading, and must come out the same.
+    pub fn read(&mut self, packet: &[u8]) -> u64 {
         self.report.inputs += 1;
         let expected = packet::read(packet);
         let (answer, due) = (LIBRARY.read(packet), read_answer(&expected));
         self.expect(answer == due, || format!("read gives {answer:#x}, not {due:#x}: {}", hex(packet)));
+        self.judge_refusal("read", answer);
         match &expected {
             Ok(reading) => {
                 self.counts.read_accepted.count(reading.command.opcode(), reading.header());
                 self.make_again(packet, answer);
             }
-            Err(refusal) => self.counts.read_refused.count(refusal.number()),
+            Err(refused) => {
+                self.counts.read_refused.count(refused.number());
+                if refused.refusal == Refusal::Range {
+                    self.counts.read_named.count(packet[0], packet[1], refused.place);
+                }
+            }
         }
+        answer
+    }
+
+    /// A refusal of reading or making has its number and, with 10 alone, a place; all else is clear.
+    fn judge_refusal(&mut self, entry: &str, answer: u64) {
+        let right = answers::upper_half_is_right(answer) && answers::middle_is_clear(answer);
+        self.expect(right, || format!("{entry}: a refusal has no such bits: {answer:#x}"));
     }
 
     /// Makes a packet from what the library answered on reading it.
@@ -85,9 +101,9 @@ impl Bench {
         self.expect(same, || format!("made again, {made:#x}: {} from {}", hex(&buffer), hex(packet)));
     }
 
-    /// `vermolgas_make` with a buffer of `room` bytes. A packet made is read back, and must give
-    /// what it was made from.
-    pub fn make(&mut self, opcode: u16, options: u8, data: &[u8], room: usize) {
+    /// `vermolgas_make` with a buffer of `room` bytes; gives the library's answer. A packet made is
+    /// read back, and must give what it was made from.
+    pub fn make(&mut self, opcode: u16, options: u8, data: &[u8], room: usize) -> u64 {
         self.report.inputs += 1;
         let start = self.random.below(LARGEST_ROOM - 2 * GUARD);
         let mut due_bytes = self.filling[start..start + room + 2 * GUARD].to_vec();
@@ -99,6 +115,7 @@ impl Bench {
         let due = make_answer(&expected);
         let input = || format!("opcode {opcode:#x}, options {options:#x}, room {room}, data {}", hex(data));
         self.expect(answer == due, || format!("make gives {answer:#x}, not {due:#x}: {}", input()));
+        self.judge_refusal("make", answer);
         self.expect(bytes == due_bytes, || {
             format!("make leaves {}, not {}: {}", hex(&bytes[GUARD..]), hex(&due_bytes[GUARD..]), input())
         });
@@ -113,8 +130,14 @@ impl Bench {
                 self.expect(answer == due, || format!("read back as {answer:#x}, not {due:#x}: {}", input()));
                 self.expect(packet[place..].starts_with(data), || format!("made of other data: {}", input()));
             }
-            Err(refusal) => self.counts.make_refused.count(refusal.number()),
+            Err(refused) => {
+                self.counts.make_refused.count(refused.number());
+                if refused.refusal == Refusal::Range {
+                    self.counts.make_named.count(options, opcode as u8, refused.place);
+                }
+            }
         }
+        answer
     }
 
     /// `vermolgas_read_reply`; any number but 0 expects a checksum.
@@ -143,22 +166,22 @@ fn read_fields(opcode: u8, options: u8, offset: usize, length: usize) -> u64 {
 }
 
 /// The answer of `vermolgas_read`.
-pub fn read_answer(reading: &Result<Reading, Refusal>) -> u64 {
+pub fn read_answer(reading: &Result<Reading, Refused>) -> u64 {
     match reading {
         Ok(reading) => {
             let options = reading.header().byte() & 0xF8;
             let place = &reading.place;
             read_fields(reading.command.opcode().number(), options, place.start, place.len())
         }
-        Err(refusal) => refusal.number().into(),
+        Err(refused) => answers::refused(refused),
     }
 }
 
 /// The answer of `vermolgas_make`.
-pub fn make_answer(made: &Result<usize, Refusal>) -> u64 {
+pub fn make_answer(made: &Result<usize, Refused>) -> u64 {
     match made {
         Ok(length) => (*length as u64) << 8,
-        Err(refusal) => refusal.number().into(),
+        Err(refused) => answers::refused(refused),
     }
 }
 

@@ -4,7 +4,7 @@ use std::io::Read;
 
 use twin::replay::{replay, End};
 
-use crate::counts::{Accepted, Refused};
+use crate::counts::{Accepted, Refusals};
 use crate::program::{Feed, Outcome, Program};
 use crate::random::Random;
 use crate::report::{hex, Report};
@@ -14,7 +14,7 @@ pub struct Comparison {
     pub report: Report,
     pub program: Program,
     pub accepted: Accepted,
-    pub refused: Refused,
+    pub refused: Refusals,
     pub records: u64,
     /// How often a replay came to each of its ends.
     ends: Vec<(End, u64)>,
@@ -27,7 +27,7 @@ impl Comparison {
             report,
             program,
             accepted: Accepted::default(),
-            refused: Refused::default(),
+            refused: Refusals::default(),
             records: 0,
             ends: [End::Whole, End::Cut, End::NotASession, End::Unreadable].map(|end| (end, 0)).to_vec(),
         }

@@ -1,5 +1,7 @@
 //! How often packets were accepted and refused, and the least counts that are asked for.
 
+use std::collections::BTreeMap;
+
 use twin::command::{Direction, Opcode};
 use twin::packet::Header;
 use twin::refusal::Refusal;
@@ -9,6 +11,9 @@ use crate::report::Report;
 /// How often each set of opcode, direction and options is accepted, at least, and each refusal
 /// given.
 pub const OFTEN: u64 = 1000;
+
+/// How often each place of a fault is named, at least.
+const NAMED: u64 = 25;
 
 /// Inputs in all, at least.
 const INPUTS: u64 = 1_000_000;
@@ -43,9 +48,9 @@ impl Accepted {
 
 /// How often each refusal was given, at the index of its number.
 #[derive(Default)]
-pub struct Refused([u64; 13]);
+pub struct Refusals([u64; 13]);
 
-impl Refused {
+impl Refusals {
     pub fn count(&mut self, number: u8) {
         self.0[usize::from(number)] += 1;
     }
@@ -56,6 +61,29 @@ impl Refused {
         let said: Vec<String> =
             refusals.iter().map(|refusal| format!("{} × {}", refusal.number(), count(refusal))).collect();
         report.close(name, refusals.iter().all(|refusal| count(refusal) >= OFTEN), &said.join(", "));
+    }
+}
+
+/// How often a refusal by 10 named each place, by opcode and whether it is a read.
+#[derive(Default)]
+pub struct Named(BTreeMap<(u8, bool, u16), u64>);
+
+impl Named {
+    /// Counts a refusal by 10 of a packet with this header byte and this opcode.
+    pub fn count(&mut self, header: u8, opcode: u8, place: u16) {
+        *self.0.entry((opcode, header & 0x80 != 0, place)).or_default() += 1;
+    }
+
+    /// Each of these places was named, often enough, and no other was.
+    pub fn check(&self, report: &mut Report, name: &str, places: &[(Opcode, Direction, u16)]) {
+        let key = |(opcode, direction, place): &(Opcode, Direction, u16)| {
+            (opcode.number(), *direction == Direction::Read, *place)
+        };
+        let counts = places.iter().map(|place| self.0.get(&key(place)).copied().unwrap_or(0));
+        let (least, sum) = (counts.min().unwrap_or(0), self.0.values().sum::<u64>());
+        let (named, due) = (self.0.len(), places.len());
+        let said = format!("{sum}, of {named} places; each of {due} at least {least} times");
+        report.close(name, least >= NAMED && named == due, &said);
     }
 }
 

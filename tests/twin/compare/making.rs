@@ -94,7 +94,8 @@ pub fn order(bench: &mut Bench) {
                 for (packet, room, due) in [(one, LONGEST, second), (both, room, first)] {
                     let header = Header::from_byte(packet.header);
                     let made = packet::make(header, packet.opcode, &packet.data, &mut [0; LONGEST][..room]);
-                    bench.expect(made == Err(due), || format!("twin: {made:?}, not {due:?}"));
+                    let refusal = made.err().map(|refused| refused.refusal);
+                    bench.expect(refusal == Some(due), || format!("twin: {made:?}, not {due:?}"));
                     bench.make(packet.opcode, packet.header, &packet.data, room);
                 }
             }

@@ -2,13 +2,17 @@
 //! and buffers to the last byte. The seed may be given as the one argument; it and all counts are
 //! printed, and counts that fall short are failures.
 
+#[allow(dead_code, reason = "each program packs some kinds of answers")]
+mod answers;
 mod bench;
 mod checksums;
 mod counts;
+mod faults;
 mod generate;
 #[allow(dead_code, reason = "each program calls some of the entries")]
 mod library;
 mod making;
+mod naming;
 mod random;
 mod reading;
 mod recipe;
@@ -19,6 +23,7 @@ use std::process::ExitCode;
 
 use bench::{make_answer, read_answer, reply_answer, Bench};
 use counts::{check_inputs, OFTEN};
+use faults::PLACES;
 use library::WITH_NULL;
 use report::Report;
 use twin::command::Opcode;
@@ -42,6 +47,9 @@ fn main() -> ExitCode {
     bench.group("read, checksums", checksums::of_packets);
     bench.group("read, 512 bytes and more", reading::long);
     bench.group("read, order of refusals", reading::order);
+    for (name, cases) in PLACES {
+        bench.group(&format!("read and make, places, {name}"), |bench| naming::read_and_make(bench, cases));
+    }
     bench.group("make, opcodes and options", making::opcodes_and_options);
     bench.group("make, buffers", making::buffers);
     bench.group("make, sizes", making::sizes);
@@ -92,6 +100,8 @@ fn check_counts(bench: &mut Bench) {
     report.close("accepted by read_reply", least >= OFTEN, &said);
     counts.read_refused.check(report, "refused by read", &recipe::FAULTS);
     counts.make_refused.check(report, "refused by make", &making::REFUSALS);
+    counts.read_named.check(report, "places named by read", &faults::places());
+    counts.make_named.check(report, "places named by make", &faults::places());
     counts.reply_refused.check(report, "refused by read_reply", &replies::REFUSALS);
     check_inputs(report);
 }

@@ -352,7 +352,7 @@ pub fn order(bench: &mut Bench) {
             for _ in 0..OFTEN {
                 let (one, both) = Packet::pair(&mut bench.random, first, second);
                 for (packet, due) in [(one.bytes(), second), (both.bytes(), first)] {
-                    let refusal = packet::read(&packet).err();
+                    let refusal = packet::read(&packet).err().map(|refused| refused.refusal);
                     bench.expect(refusal == Some(due), || format!("twin: {refusal:?}, not {due:?}"));
                     bench.read(&packet);
                 }

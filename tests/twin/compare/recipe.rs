@@ -181,7 +181,7 @@ impl Packet {
     /// What is wrong with the data, apart from the frame.
     fn fault(&self) -> Option<Refusal> {
         let (direction, opcode) = self.command()?;
-        Command::parse(direction, opcode, &self.data).err()
+        Command::parse(direction, opcode, &self.data).err().map(|refused| refused.refusal)
     }
 }
 

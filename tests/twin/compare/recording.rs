@@ -8,7 +8,7 @@ use twin::replay::{push_record, OPENING};
 use twin::scripts::hex;
 use twin::settings::{GAINS, PINS, POINTS, PWM_PORTS, UARTS};
 
-use crate::counts::{Accepted, Refused};
+use crate::counts::{Accepted, Refusals};
 use crate::fitting;
 use crate::generate;
 use crate::random::Random;
@@ -52,7 +52,7 @@ impl Recording {
     }
 
     /// Adds a packet that is refused, each refusal in turn, or one of a few bytes, and counts it.
-    pub fn refused(&mut self, random: &mut Random, turn: usize, counts: &mut Refused) {
+    pub fn refused(&mut self, random: &mut Random, turn: usize, counts: &mut Refusals) {
         let packet = match FAULTS.get(turn % (FAULTS.len() + 2)) {
             Some(fault) => Packet::faulty(random, *fault),
             None if random.flag() => self.past_table(random),

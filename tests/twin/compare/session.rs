@@ -4,8 +4,10 @@ use twin::block;
 use twin::command::{Direction, Opcode};
 use twin::front_end::{self, Answer, Lent, GAINS_BYTES, MAP_BYTES};
 use twin::packet::{Header, LONGEST};
+use twin::refusal::Refusal;
 
-use crate::counts::{Accepted, Refused};
+use crate::answers;
+use crate::counts::{Accepted, Named, Refusals};
 use crate::library::{Library, LIBRARY};
 use crate::random::Random;
 use crate::report::{hex, Report};
@@ -81,7 +83,8 @@ pub struct Session {
     pub random: Random,
     pub report: Report,
     pub accepted: Accepted,
-    pub refused: Refused,
+    pub refused: Refusals,
+    pub named: Named,
     /// How often compressed gains were accepted, by their colour.
     pub compressed: [u64; 4],
     /// How the entries are called.
@@ -101,7 +104,8 @@ impl Session {
             random,
             report,
             accepted: Accepted::default(),
-            refused: Refused::default(),
+            refused: Refusals::default(),
+            named: Named::default(),
             compressed: [0; 4],
             entries: LIBRARY,
             twin: side.clone(),
@@ -187,10 +191,11 @@ impl Session {
         });
         let changed = self.library.meaningless() != self.twin.meaningless();
         self.expect(!changed, || format!("changes block bytes without a meaning: {}", hex(packet)));
+        self.judge_refusal(packet, answer);
 
         let (lent, reply) = self.twin.lend();
         let due = front_end::packet(packet, lent, reply);
-        let due_number = u64::from(due.status) | (due.length as u64) << 8;
+        let due_number = answers::packet(due);
         self.expect(answer == due_number, || {
             format!("packet gives {answer:#x}, not {due_number:#x}: {}", hex(packet))
         });
@@ -217,9 +222,32 @@ impl Session {
         self.library.clone_from(&self.twin);
     }
 
+    /// What the library says of a refusal by itself: a place stands in the answer with 10 alone, and the
+    /// same place is the data of the reply; any other refusal's reply has none.
+    fn judge_refusal(&mut self, packet: &[u8], answer: u64) {
+        self.expect(answers::upper_half_is_right(answer), || {
+            format!("a refusal has no such bits: {answer:#x}, {}", hex(packet))
+        });
+        let (status, length) = (answer as u8, (answer >> 8 & 0xFFFF) as usize);
+        if status == 0 || length == 0 {
+            return;
+        }
+        let data = answers::place(answer).map_or(vec![], |place| place.to_le_bytes().to_vec());
+        let head = [status, data.len() as u8, 0];
+        let checksum = usize::from(packet[0] >> 5 & 1);
+        let reply = self.bytes(Part::Reply);
+        let right = reply.starts_with(&[&head[..], &data].concat()) && length == 3 + data.len() + checksum;
+        self.expect(right, || {
+            format!("answer {answer:#x} with a reply of {length} bytes and other data: {}", hex(packet))
+        });
+    }
+
     fn count(&mut self, packet: &[u8], answer: Answer) {
         if answer.status != 0 {
             self.refused.count(answer.status);
+            if answer.status == Refusal::Range.number() {
+                self.named.count(packet[0], packet[1], answer.place);
+            }
         } else if let Some(opcode) = Opcode::find(packet[1].into()) {
             let header = Header::from_byte(packet[0]);
             self.accepted.count(opcode, header);

@@ -207,7 +207,9 @@ fn every_refusal() -> Vec<Step> {
         // A wrong checksum needs one.
         for frame in FRAMES.into_iter().filter(|frame| packet.header & 0x20 == frame & packet.header & 0x20) {
             let framed = Packet { header: packet.header | frame, ..packet.clone() };
-            steps.push(answered(framed, status, &[]));
+            // Refused by 10 is the display here, at place 0.
+            let data: &[u8] = if status == 10 { &[0, 0] } else { &[] };
+            steps.push(answered(framed, status, data));
         }
     }
     steps.push(step("84 11", 0, "00 01 00 00"));

@@ -3,8 +3,11 @@
 //! buffer included. The seed may be given as the one argument; it and all counts are printed, and
 //! counts that fall short are failures.
 
+#[allow(dead_code, reason = "each program packs some kinds of answers")]
+mod answers;
 mod compressed;
 mod counts;
+mod faults;
 mod fitting;
 mod generate;
 mod lending;
@@ -15,9 +18,11 @@ mod recipe;
 mod report;
 mod session;
 mod talking;
+mod telling;
 
 use std::process::ExitCode;
 
+use faults::PLACES;
 use report::Report;
 use session::Session;
 use twin::refusal::Refusal;
@@ -43,6 +48,9 @@ fn main() -> ExitCode {
     session.group("compressed gains, order of refusals", compressed::order);
     session.group("compressed gains, damaged", compressed::damaged);
     session.group("compressed gains, random pairs", compressed::random_pairs);
+    for (name, cases) in PLACES {
+        session.group(&format!("places, {name}"), |session| telling::send(session, cases));
+    }
     session.group("random bytes", talking::random_bytes);
     session.group("lent lengths", lending::lengths);
     session.group("NULL for an empty slice", lending::null_pointers);
@@ -58,6 +66,7 @@ fn main() -> ExitCode {
     report.close("compressed gains accepted", compressed.iter().all(|count| *count >= COMPRESSED), &said);
     let refusals = recipe::FAULTS.into_iter().chain([Refusal::PastTable]);
     refused.check(report, "refused", &Vec::from_iter([Refusal::Lent].into_iter().chain(refusals)));
+    session.named.check(report, "places named", &faults::places());
     counts::check_inputs(report);
     report.finish()
 }

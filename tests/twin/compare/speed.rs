@@ -3,6 +3,8 @@
 //!
 //! `cargo run --profile speed --offline --locked --manifest-path tests/twin/Cargo.toml --bin bench_front_end`
 
+#[allow(dead_code, reason = "each program packs some kinds of answers")]
+mod answers;
 #[allow(dead_code, reason = "a session for measuring is accepted")]
 mod fitting;
 #[allow(dead_code, reason = "packets are made for a mixed session alone")]
@@ -42,10 +44,7 @@ fn library_call(packet: Option<&[u8]>, memory: &mut Memory, reply: &mut [u8; LON
 
 fn twin_call(packet: Option<&[u8]>, memory: &mut Memory, reply: &mut [u8; LONGEST]) -> u64 {
     match packet {
-        Some(packet) => {
-            let answer = front_end::packet(packet, memory.lend(), reply);
-            u64::from(answer.status) | (answer.length as u64) << 8
-        }
+        Some(packet) => answers::packet(front_end::packet(packet, memory.lend(), reply)),
         None => front_end::reset(memory.lend()).map_or_else(|refusal| refusal.number().into(), |()| 0),
     }
 }
@@ -58,12 +57,18 @@ fn main() -> ExitCode {
     // The same points with a two-byte opcode and a checksum: 512 bytes, as the reply to the read has.
     let longest = packet_of(0x3C, Opcode::Map, &points);
     let asks = packet_of(0xB4, Opcode::Map, &[7, 0, 127, 0]);
+    // Refused by 10 for the last of their fields: a source of 2, and a list whose last number is 0.
+    let uart = [0x54, 0x6D, 11, 0, 1, 1, 8, 3, 0, 0, 0, 2, 2, 0, 2];
+    let mut lists = vec![0x54, 0x35, 189, 0, 1];
+    lists.extend((0..62).chain(0..31).chain([0]).flat_map(u16::to_le_bytes));
     let cases = [
         ("mixed session", mixed.iter().map(|packet| Some(&packet[..])).collect()),
         ("11h write", vec![Some(&[0x04, 0x11, 0x01][..])]),
         ("34h write of 126 points", vec![Some(&map[..])]),
         ("512 bytes, checksum", vec![Some(&longest[..])]),
         ("512-byte reply, checksum", vec![Some(&asks[..])]),
+        ("6Dh refused, reply", vec![Some(&uart[..])]),
+        ("35h refused, reply", vec![Some(&lists[..])]),
         ("36h apply", vec![Some(&[0x04, 0x36, 0x01][..])]),
         ("reset", vec![None]),
     ];

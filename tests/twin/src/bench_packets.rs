@@ -6,24 +6,24 @@ use crate::fields::checksum;
 use crate::front_end::{self, Lent, Memory};
 use crate::packet::{self, assemble, Header};
 use crate::planner::{self, Planned};
-use crate::refusal::Refusal;
+use crate::refusal::{Refusal, Refused};
 use crate::reply::{self, Reply};
 use crate::runs;
 use crate::scripts::{hex, SCRIPTS};
 use crate::settings::{Settings, Shape};
 
 /// What reading gives of a packet in hex, seen by `see`.
-fn reading<T>(text: &str, see: impl FnOnce(Result<Command, Refusal>) -> T) -> T {
+fn reading<T>(text: &str, see: impl FnOnce(Result<Command, Refused>) -> T) -> T {
     see(packet::read(&hex(text)).map(|reading| reading.command))
 }
 
-fn assert_reads(text: &str, expected: Result<Command, Refusal>) {
+fn assert_reads(text: &str, expected: Result<Command, Refused>) {
     reading(text, |command| assert_eq!(command, expected, "{text}"));
 }
 
 /// The refusal's number that reading gives, 0 for none.
 fn refusal(text: &str) -> u8 {
-    reading(text, |command| command.map_or_else(Refusal::number, |_| 0))
+    reading(text, |command| command.map_or_else(Refused::number, |_| 0))
 }
 
 /// One packet, and the reply written; what lies behind it is unchanged.
@@ -397,7 +397,7 @@ fn making_refuses_in_order() {
     let make = |header, opcode, data: &[u8], room| {
         let mut buffer = vec![0; room];
         let made = packet::make(Header::from_byte(header), opcode, data, &mut buffer);
-        made.map_or_else(Refusal::number, |_| 0)
+        made.map_or_else(Refused::number, |_| 0)
     };
     assert_eq!(make(0x00, 0x111, &[9; 600], 511), 1);
     assert_eq!(make(0x00, 0x111, &[9; 511], 512), 3);

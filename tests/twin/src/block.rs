@@ -5,7 +5,7 @@
 
 use std::ops::Range;
 
-use crate::fields::{within, Fields, OutOfRange};
+use crate::fields::{Fields, OutOfRange};
 use crate::settings::{
     curtain_colour, rising, Pin, Pwm, Settings, Shape, SmoothTable, Uart, COLUMNS, PINS, PWM_PORTS, ROWS,
     SMOOTH_POINTS, UARTS,
@@ -59,22 +59,24 @@ fn entry(first: usize, size: usize, index: usize) -> Range<usize> {
 /// Refusal 1 (rule 4.1): each field that has a meaning lies in its range.
 pub fn judge(block: &[u8; BYTES]) -> Result<(), OutOfRange> {
     let fields = &mut Fields::new(block);
-    within(fields.byte(), 0..=4)?; // display
+    fields.byte_within(0..=4)?; // display
     fields.flag()?; // low latency
     fields.word(); // look
-    curtain_colour(fields.byte())?;
+    fields.byte_as(curtain_colour)?;
     fields.byte(); // splash image
-    within(fields.byte(), 0..=3)?; // flip
+    fields.byte_within(0..=3)?; // flip
     fields.flag()?; // freeze
     judge_shape(fields)?; // staged
     fields.flag()?; // enable
     judge_shape(fields)?; // live
-    within(fields.byte(), 3..=5)?; // smooth columns
-    within(fields.byte(), 3..=5)?; // smooth rows
+    fields.byte_within(3..=5)?; // smooth columns
+    fields.byte_within(3..=5)?; // smooth rows
     fields.array::<4, SMOOTH_POINTS>();
-    within(fields.byte(), 0..=0)?; // update mode
-    for flag in fields.array::<3, PINS>().as_flattened() {
-        within(*flag, 0..=1)?;
+    fields.byte_within(0..=0)?; // update mode
+    let ahead = fields.place();
+    let flags = fields.array::<3, PINS>().as_flattened();
+    if let Some(index) = flags.iter().position(|flag| *flag > 1) {
+        return Err(OutOfRange { place: ahead + index });
     }
     for _ in PWM_PORTS {
         Pwm::take(fields)?;
@@ -88,9 +90,10 @@ pub fn judge(block: &[u8; BYTES]) -> Result<(), OutOfRange> {
 
 /// Mode 0 with 2-62 columns and 2-32 rows, or mode 1 with 62 × 32; lists rising in either mode.
 fn judge_shape(fields: &mut Fields) -> Result<(), OutOfRange> {
-    let (columns, rows) = if fields.flag()? { (COLUMNS, ROWS) } else { (2, 2) };
-    within(fields.word().into(), columns..=COLUMNS)?;
-    within(fields.word().into(), rows..=ROWS)?;
+    let (most_columns, most_rows) = (COLUMNS as u16, ROWS as u16);
+    let (columns, rows) = if fields.flag()? { (most_columns, most_rows) } else { (2, 2) };
+    fields.word_within(columns..=most_columns)?;
+    fields.word_within(rows..=most_rows)?;
     rising(fields.array())?;
     Ok(())
 }

@@ -1,15 +1,9 @@
 //! The eighteen commands of rule 5.1 as types, and how their data is read and written.
 
-use crate::fields::{within, Fields, OutOfRange, Word};
-use crate::refusal::Refusal;
+use crate::fields::{Fields, OutOfRange, Word};
+use crate::refusal::{Refusal, Refused};
 use crate::runs::{self, Pair};
 use crate::settings::{curtain_colour, ControlPoints, Pin, Point, Pwm, Uart, PINS, PWM_PORTS, UARTS};
-
-impl From<OutOfRange> for Refusal {
-    fn from(_: OutOfRange) -> Self {
-        Refusal::Range
-    }
-}
 
 /// Bit 7 of the header.
 #[derive(Clone, Copy, Debug, PartialEq, Eq)]
@@ -103,9 +97,9 @@ pub enum Target {
 
 impl Target {
     /// Rule 5.8: 0 all three, 1-3 one colour.
-    fn from_byte(byte: u8) -> Result<Self, OutOfRange> {
+    fn from_byte(byte: u8) -> Option<Self> {
         match byte {
-            0 => Ok(Target::All),
+            0 => Some(Target::All),
             _ => Colour::from_byte(byte).map(Target::One),
         }
     }
@@ -130,8 +124,8 @@ pub enum Colour {
 impl Colour {
     pub const ALL: [Colour; 3] = [Colour::Red, Colour::Green, Colour::Blue];
 
-    fn from_byte(byte: u8) -> Result<Self, OutOfRange> {
-        Colour::ALL.into_iter().find(|colour| *colour as u8 == byte).ok_or(OutOfRange)
+    fn from_byte(byte: u8) -> Option<Self> {
+        Colour::ALL.into_iter().find(|colour| *colour as u8 == byte)
     }
 }
 
@@ -180,25 +174,25 @@ pub enum Write<'a> {
 
 impl<'a> Write<'a> {
     /// A write's data as what it asks for: refusals 9, 10 and 11, in this order, with the
-    /// exceptions of rule 5.9 for 35h and 38h.
-    pub fn parse(opcode: Opcode, data: &'a [u8]) -> Result<Self, Refusal> {
+    /// exceptions of rule 5.9 for 35h and 38h. Fields are taken as they stand, so that the first at
+    /// fault is the one whose place is named.
+    pub fn parse(opcode: Opcode, data: &'a [u8]) -> Result<Self, Refused> {
         Ok(match opcode {
-            Opcode::Display => Write::Display(within(sized(data, 1)?.byte(), 0..=4)?),
+            Opcode::Display => Write::Display(sized(data, 1)?.byte_within(0..=4)?),
             Opcode::LowLatency => Write::LowLatency(sized(data, 1)?.flag()?),
             Opcode::Look => Write::Look(sized(data, 2)?.word()),
-            Opcode::CurtainColour => Write::CurtainColour(curtain_colour(sized(data, 1)?.byte())?),
+            Opcode::CurtainColour => Write::CurtainColour(sized(data, 1)?.byte_as(curtain_colour)?),
             Opcode::SplashImage => Write::SplashImage(sized(data, 1)?.byte()),
-            Opcode::Flip => Write::Flip(within(sized(data, 1)?.byte(), 0..=3)?),
+            Opcode::Flip => Write::Flip(sized(data, 1)?.byte_within(0..=3)?),
             Opcode::Freeze => Write::Freeze(sized(data, 1)?.flag()?),
             Opcode::Gains => return Write::parse_gains(data),
             Opcode::Map => return Write::parse_map(data),
             Opcode::ControlPoints => return Write::parse_control_points(data),
             Opcode::Apply => Write::Apply(sized(data, 1)?.flag()?),
             Opcode::SmoothTable => return Write::parse_smooth_table(data),
-            Opcode::UpdateMode => match sized(data, 1)?.byte() {
-                0 => Write::UpdateMode,
-                1 => return Err(Refusal::NotCarried),
-                _ => return Err(Refusal::Range),
+            Opcode::UpdateMode => match sized(data, 1)?.flag()? {
+                false => Write::UpdateMode,
+                true => return Err(Refusal::NotCarried.into()),
             },
             Opcode::Pin => {
                 let mut fields = sized(data, 4)?;
@@ -222,51 +216,55 @@ impl<'a> Write<'a> {
 
     /// 2Bh, rules 5.8, 5.9 and 5.11: compression, colour, count, start, words. A count of 0 is out of range; with
     /// flag 1 an odd one is a wrong size.
-    fn parse_gains(data: &'a [u8]) -> Result<Self, Refusal> {
-        let (head, words) = data.split_at_checked(6).ok_or(Refusal::Size)?;
-        let mut fields = Fields::new(head);
-        let (compression, colour, count, start) =
-            (fields.byte(), fields.byte(), fields.word(), fields.word());
-        if words.len() != 2 * usize::from(count) || compression == 1 && count % 2 == 1 {
-            return Err(Refusal::Size);
-        }
-        let target = Target::from_byte(colour)?;
-        within(count, 1..=u16::MAX)?;
-        let mut words = Fields::new(words);
-        Ok(match compression {
-            0 => Write::Gains { target, start, words: runs::gains_in_range(words.all())? },
-            1 => Write::CompressedGains { target, start, pairs: runs::pairs_in_range(words.all())? },
-            _ => return Err(Refusal::Range),
+    fn parse_gains(data: &'a [u8]) -> Result<Self, Refused> {
+        let [compression, _, low, high, ..] = *data.first_chunk::<6>().ok_or(Refusal::Size)?;
+        let count = u16::from_le_bytes([low, high]);
+        expect_size(compression != 1 || count % 2 == 0)?;
+        let mut fields = sized(data, 6 + 2 * usize::from(count))?;
+        let compressed = fields.flag()?;
+        let target = fields.byte_as(Target::from_byte)?;
+        fields.word_within(1..=u16::MAX)?;
+        let start = fields.word();
+        let ahead = fields.place();
+        let behind_head = |fault: OutOfRange| fault.behind(ahead);
+        Ok(if compressed {
+            let pairs = runs::pairs_in_range(fields.all()).map_err(behind_head)?;
+            Write::CompressedGains { target, start, pairs }
+        } else {
+            let words = runs::gains_in_range(fields.all()).map_err(behind_head)?;
+            Write::Gains { target, start, words }
         })
     }
 
     /// 34h, rule 5.9: a start, and one point or more of 4 bytes.
-    fn parse_map(data: &'a [u8]) -> Result<Self, Refusal> {
-        if data.len() < 6 || data.len() % 4 != 2 {
-            return Err(Refusal::Size);
-        }
+    fn parse_map(data: &'a [u8]) -> Result<Self, Refused> {
+        expect_size(data.len() >= 6 && data.len() % 4 == 2)?;
         let mut fields = Fields::new(data);
         Ok(Write::Map { start: fields.word(), points: fields.all() })
     }
 
     /// 35h, rule 5.9: with no byte it is refusal 9; a mode above 1 is refusal 10, whatever the
     /// size.
-    fn parse_control_points(data: &'a [u8]) -> Result<Self, Refusal> {
-        let (mode, rest) = data.split_first().ok_or(Refusal::Size)?;
-        Ok(Write::ControlPoints(match mode {
-            0 => ControlPoints::take_even(&mut sized(rest, 4)?)?,
-            1 => ControlPoints::take_listed(&mut sized(rest, 188)?)?,
-            _ => return Err(Refusal::Range),
+    fn parse_control_points(data: &'a [u8]) -> Result<Self, Refused> {
+        expect_size(!data.is_empty())?;
+        let mut fields = Fields::new(data);
+        let listed = fields.flag()?;
+        expect_size(data.len() == if listed { 189 } else { 5 })?;
+        Ok(Write::ControlPoints(if listed {
+            ControlPoints::take_listed(&mut fields)?
+        } else {
+            ControlPoints::take_even(&mut fields)?
         }))
     }
 
     /// 38h, rule 5.9: with under 2 bytes it is refusal 9; columns or rows outside 3-5 are refusal
     /// 10, whatever the size.
-    fn parse_smooth_table(data: &'a [u8]) -> Result<Self, Refusal> {
-        let (counts, points) = data.split_at_checked(2).ok_or(Refusal::Size)?;
-        let columns = within(counts[0], 3..=5)?;
-        let rows = within(counts[1], 3..=5)?;
-        let mut fields = sized(points, 4 * usize::from(columns) * usize::from(rows))?;
+    fn parse_smooth_table(data: &'a [u8]) -> Result<Self, Refused> {
+        expect_size(data.len() >= 2)?;
+        let mut fields = Fields::new(data);
+        let columns = fields.byte_within(3..=5)?;
+        let rows = fields.byte_within(3..=5)?;
+        expect_size(data.len() == 2 + 4 * usize::from(columns) * usize::from(rows))?;
         Ok(Write::SmoothTable { columns, rows, points: fields.all() })
     }
 
@@ -356,7 +354,7 @@ pub enum Read {
 
 impl Read {
     /// A read's data as what it asks for: refusals 9 and 10.
-    pub fn parse(opcode: Opcode, data: &[u8]) -> Result<Self, Refusal> {
+    pub fn parse(opcode: Opcode, data: &[u8]) -> Result<Self, Refused> {
         let size = match opcode {
             Opcode::Gains => 5,
             Opcode::Map => 4,
@@ -373,11 +371,11 @@ impl Read {
             Opcode::Flip => Read::Flip,
             Opcode::Freeze => Read::Freeze,
             Opcode::Gains => Read::Gains {
-                colour: Colour::from_byte(fields.byte())?,
+                colour: fields.byte_as(Colour::from_byte)?,
                 start: fields.word(),
-                count: within(fields.word(), 1..=254)?,
+                count: fields.word_within(1..=254)?,
             },
-            Opcode::Map => Read::Map { start: fields.word(), count: within(fields.word(), 1..=127)? },
+            Opcode::Map => Read::Map { start: fields.word(), count: fields.word_within(1..=127)? },
             Opcode::ControlPoints => Read::ControlPoints,
             Opcode::Apply => Read::Apply,
             Opcode::SmoothTable => Read::SmoothTable,
@@ -437,7 +435,7 @@ pub enum Command<'a> {
 
 impl<'a> Command<'a> {
     /// Refusals 9, 10 and 11.
-    pub fn parse(direction: Direction, opcode: Opcode, data: &'a [u8]) -> Result<Self, Refusal> {
+    pub fn parse(direction: Direction, opcode: Opcode, data: &'a [u8]) -> Result<Self, Refused> {
         match direction {
             Direction::Write => Write::parse(opcode, data).map(Command::Write),
             Direction::Read => Read::parse(opcode, data).map(Command::Read),
@@ -468,11 +466,13 @@ impl<'a> Command<'a> {
 
 /// The fields of data of exactly this size; any other size is refusal 9.
 fn sized(data: &[u8], size: usize) -> Result<Fields<'_>, Refusal> {
-    if data.len() == size {
-        Ok(Fields::new(data))
-    } else {
-        Err(Refusal::Size)
-    }
+    expect_size(data.len() == size)?;
+    Ok(Fields::new(data))
+}
+
+/// Refusal 9 unless the size is right.
+fn expect_size(right: bool) -> Result<(), Refusal> {
+    right.then_some(()).ok_or(Refusal::Size)
 }
 
 /// The data of a 2Bh write, whose count is that of its words.
@@ -483,16 +483,15 @@ fn gains_data(compression: u8, target: Target, start: u16, words: &[u8]) -> Vec<
 
 /// 60h and 61h: pin 0-87.
 fn pin(fields: &mut Fields) -> Result<u8, OutOfRange> {
-    within(fields.byte(), 0..=PINS as u8 - 1)
+    fields.byte_within(0..=PINS as u8 - 1)
 }
 
 /// 65h: ports 0-10 and 13.
 fn pwm_port(fields: &mut Fields) -> Result<u8, OutOfRange> {
-    let port = fields.byte();
-    PWM_PORTS.contains(&port).then_some(port).ok_or(OutOfRange)
+    fields.byte_as(|port| PWM_PORTS.contains(&port).then_some(port))
 }
 
 /// 6Dh: port 0-2.
 fn uart_port(fields: &mut Fields) -> Result<u8, OutOfRange> {
-    within(fields.byte(), 0..=UARTS as u8 - 1)
+    fields.byte_within(0..=UARTS as u8 - 1)
 }

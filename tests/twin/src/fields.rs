@@ -18,26 +18,42 @@ pub fn checksum(bytes: &[u8]) -> u8 {
 /// Some value is out of its range, or reserved. In a packet this is refusal 10, in a setting
 /// refusal 1.
 #[derive(Clone, Copy, Debug, PartialEq, Eq)]
-pub struct OutOfRange;
-
-/// `value`, if it lies in `range`.
-pub fn within<T: PartialOrd>(value: T, range: RangeInclusive<T>) -> Result<T, OutOfRange> {
-    range.contains(&value).then_some(value).ok_or(OutOfRange)
+pub struct OutOfRange {
+    /// The bytes ahead of the value in what was judged.
+    pub place: usize,
 }
 
-/// Takes field after field from bytes whose number has been judged before.
+impl OutOfRange {
+    /// The same fault where so many more bytes stand ahead.
+    pub fn behind(self, bytes: usize) -> Self {
+        OutOfRange { place: bytes + self.place }
+    }
+}
+
+/// Takes field after field from bytes whose number has been judged before, and knows where it is: so
+/// the first field that doesn't fit names its place. The block's hundreds of fields are taken with each
+/// packet, hence the inlining.
 pub struct Fields<'a> {
     rest: &'a [u8],
+    /// The bytes taken.
+    place: usize,
 }
 
 impl<'a> Fields<'a> {
     pub fn new(bytes: &'a [u8]) -> Self {
-        Fields { rest: bytes }
+        Fields { rest: bytes, place: 0 }
     }
 
+    /// Where the next field begins.
+    pub fn place(&self) -> usize {
+        self.place
+    }
+
+    #[inline(always)]
     fn take<const N: usize>(&mut self) -> &'a [u8; N] {
         let (field, rest) = self.rest.split_first_chunk().expect("the size was judged first");
         self.rest = rest;
+        self.place += N;
         field
     }
 
@@ -55,15 +71,41 @@ impl<'a> Fields<'a> {
         u32::from_le_bytes(*self.take())
     }
 
+    /// What `meaning` gives for the next byte; if it has none, that byte is at fault.
+    #[inline(always)]
+    pub fn byte_as<T>(&mut self, meaning: impl FnOnce(u8) -> Option<T>) -> Result<T, OutOfRange> {
+        let place = self.place;
+        meaning(self.byte()).ok_or(OutOfRange { place })
+    }
+
     /// A byte that is 0 or 1.
+    #[inline(always)]
     pub fn flag(&mut self) -> Result<bool, OutOfRange> {
-        Ok(within(self.byte(), 0..=1)? == 1)
+        Ok(self.byte_within(0..=1)? == 1)
+    }
+
+    #[inline(always)]
+    pub fn byte_within(&mut self, range: RangeInclusive<u8>) -> Result<u8, OutOfRange> {
+        self.byte_as(|byte| range.contains(&byte).then_some(byte))
+    }
+
+    #[inline(always)]
+    pub fn word_within(&mut self, range: RangeInclusive<u16>) -> Result<u16, OutOfRange> {
+        let place = self.place;
+        Some(self.word()).filter(|word| range.contains(word)).ok_or(OutOfRange { place })
+    }
+
+    #[inline(always)]
+    pub fn long_within(&mut self, range: RangeInclusive<u32>) -> Result<u32, OutOfRange> {
+        let place = self.place;
+        Some(self.long()).filter(|long| range.contains(long)).ok_or(OutOfRange { place })
     }
 
     /// The next `N` numbers of `W` bytes, where they lie.
     pub fn array<const W: usize, const N: usize>(&mut self) -> &'a [[u8; W]; N] {
         let (numbers, rest) = self.rest.split_at(W * N);
         self.rest = rest;
+        self.place += W * N;
         numbers.as_chunks().0.try_into().expect("N of them were split off")
     }
 
@@ -82,6 +124,7 @@ impl<'a> Fields<'a> {
     /// The numbers of `W` bytes up to the end, where they lie.
     pub fn all<const W: usize>(&mut self) -> &'a [[u8; W]] {
         let (numbers, rest) = self.rest.as_chunks();
+        self.place += self.rest.len() - rest.len();
         self.rest = rest;
         numbers
     }

@@ -10,7 +10,7 @@ use crate::block;
 use crate::command::{Colour, Command, Read, Target, Write};
 use crate::fields::{Fields, Word};
 use crate::packet::{self, Header, LONGEST};
-use crate::refusal::Refusal;
+use crate::refusal::{Refusal, Refused};
 use crate::reply;
 use crate::runs;
 use crate::settings::{ControlPoints, Point, Settings, COLUMNS, GAINS, POINTS, PWM_PORTS, ROWS};
@@ -29,12 +29,13 @@ pub struct Lent<'a> {
     pub gains: &'a mut [u8],
 }
 
-/// The answer to one packet (rule 3.4): 0 or the refusal's number, and the length of the reply, 0
-/// where there is none.
+/// The answer to one packet (rule 3.4): 0 or the refusal's number, the length of the reply, 0 where
+/// there is none, and with refusal 10 the place of the fault, else 0.
 #[derive(Clone, Copy, Debug, PartialEq, Eq)]
 pub struct Answer {
     pub status: u8,
     pub length: usize,
+    pub place: u16,
 }
 
 /// Reset (rule 5.10): every byte of the block and of the tables. A wrong length is refused with 1,
@@ -52,15 +53,21 @@ pub fn reset(lent: Lent) -> Result<(), Refusal> {
 }
 
 /// One packet. There is a reply exactly if the packet is not empty, bit 6 or bit 7 of its first byte
-/// is set, and the refusal is not 1 (rule 3.2); only an accepted read carries data (rule 3.3).
+/// is set, and the refusal is not 1 (rule 3.2). An accepted read carries data, and refusal 10 its place
+/// (rule 3.3).
 pub fn packet(packet: &[u8], lent: Lent, reply: &mut [u8]) -> Answer {
     let Ok(mut state) = State::judged(lent, reply) else {
-        return Answer { status: Refusal::Lent.number(), length: 0 };
+        return Answer { status: Refusal::Lent.number(), length: 0, place: 0 };
     };
-    let outcome = packet::read(packet).and_then(|reading| state.perform(&reading.command));
-    let (status, data) = match outcome {
-        Ok(data) => (0, data),
-        Err(refusal) => (refusal.number(), NOTHING),
+    let outcome = packet::read(packet).and_then(|reading| Ok(state.perform(&reading.command)?));
+    let place_bytes: [u8; 2];
+    let (status, place, data) = match outcome {
+        Ok(data) => (0, 0, data),
+        Err(Refused { refusal: Refusal::Range, place }) => {
+            place_bytes = place.to_le_bytes();
+            (Refusal::Range.number(), place, [&place_bytes[..], &[]])
+        }
+        Err(refused) => (refused.number(), 0, NOTHING),
     };
     let length = match packet.first().map(|byte| Header::from_byte(*byte)) {
         Some(header) if header.is_replied_to() => {
@@ -68,13 +75,13 @@ pub fn packet(packet: &[u8], lent: Lent, reply: &mut [u8]) -> Answer {
         }
         _ => 0,
     };
-    Answer { status, length }
+    Answer { status, length, place }
 }
 
 /// What a read returns, in the two parts in which it lies.
 type Data<'a> = [&'a [u8]; 2];
 
-/// The data of a write's reply, or of a refusal's.
+/// The data of a write's reply, and of a refusal's but 10.
 const NOTHING: Data = [&[], &[]];
 
 /// What was lent, of the right lengths.

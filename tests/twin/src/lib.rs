@@ -4,6 +4,7 @@
 //! from the proved library. The programs in `compare/` hold the two against each other: through the C
 //! entries, and replays by what they print.
 //!
+//! - [`refusal`]: the refusals, and where in a packet's data a value is at fault;
 //! - [`command`]: the eighteen commands, their data sizes and ranges (refusals 9, 10 and 11);
 //! - [`packet`]: reading (refusals 2 to 11) and making;
 //! - [`reply`]: reply writing and reading;
@@ -20,6 +21,8 @@
 mod bench_gains;
 #[cfg(test)]
 mod bench_packets;
+#[cfg(test)]
+mod bench_places;
 pub mod block;
 pub mod command;
 pub mod compressor;

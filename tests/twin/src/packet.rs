@@ -4,7 +4,7 @@ use std::ops::Range;
 
 use crate::command::{Command, Direction, Opcode};
 use crate::fields::{checksum, Fields};
-use crate::refusal::Refusal;
+use crate::refusal::{Refusal, Refused};
 
 /// A packet has at most this many bytes in all (rule 2.1).
 pub const LONGEST: usize = 512;
@@ -90,41 +90,41 @@ impl Reading<'_> {
     }
 }
 
-/// Reading looks at no state: refusals 2 to 11, tried in their order (rule 4.1).
-pub fn read(packet: &[u8]) -> Result<Reading<'_>, Refusal> {
+/// Reading looks at no state: refusals 2 to 11, tried in their order (rule 4.1), 10 with its place.
+pub fn read(packet: &[u8]) -> Result<Reading<'_>, Refused> {
     let header = Header::from_byte(*packet.first().ok_or(Refusal::TooShort)?);
     let options = header.options;
     if packet.len() < options.overhead() {
-        return Err(Refusal::TooShort);
+        return Err(Refusal::TooShort.into());
     }
     if packet.len() > LONGEST {
-        return Err(Refusal::TooLong);
+        return Err(Refusal::TooLong.into());
     }
     let place = options.data_offset()..packet.len() - usize::from(options.checksum_present);
     let mut fields = Fields::new(&packet[1..]);
     let opcode = if options.two_byte_opcode { fields.word() } else { fields.byte().into() };
     if options.length_present && usize::from(fields.word()) != place.len() {
-        return Err(Refusal::Length);
+        return Err(Refusal::Length.into());
     }
     if options.checksum_present && packet[place.end] != checksum(&packet[..place.end]) {
-        return Err(Refusal::Checksum);
+        return Err(Refusal::Checksum.into());
     }
     if header.destination != DESTINATION {
-        return Err(Refusal::Destination);
+        return Err(Refusal::Destination.into());
     }
     let command = judge(header, opcode, &packet[place.clone()])?;
     Ok(Reading { command, options, place })
 }
 
 /// Packet making (rule 4.4): the bytes of the packet in `buffer`, and their number. Refusals: 1 if
-/// `buffer` has under 512 bytes, else those of reading: 3, 7, 8, 9, 10, 11. Of `header` the
-/// destination isn't looked at.
-pub fn make(header: Header, opcode: u16, data: &[u8], buffer: &mut [u8]) -> Result<usize, Refusal> {
+/// `buffer` has under 512 bytes, else those of reading: 3, 7, 8, 9, 10 with its place, 11. Of
+/// `header` the destination isn't looked at.
+pub fn make(header: Header, opcode: u16, data: &[u8], buffer: &mut [u8]) -> Result<usize, Refused> {
     if buffer.len() < LONGEST {
-        return Err(Refusal::Lent);
+        return Err(Refusal::Lent.into());
     }
     if header.options.overhead() + data.len() > LONGEST {
-        return Err(Refusal::TooLong);
+        return Err(Refusal::TooLong.into());
     }
     let packet = assemble(header.options, &judge(header, opcode, data)?);
     buffer[..packet.len()].copy_from_slice(&packet);
@@ -150,11 +150,11 @@ pub fn assemble(options: Options, command: &Command) -> Vec<u8> {
 }
 
 /// Refusals 7 to 11: the opcode, the length field that some writes need, and the data.
-fn judge(header: Header, opcode: u16, data: &[u8]) -> Result<Command<'_>, Refusal> {
+fn judge(header: Header, opcode: u16, data: &[u8]) -> Result<Command<'_>, Refused> {
     let opcode = Opcode::find(opcode).ok_or(Refusal::Opcode)?;
     let needs_length = opcode.is_variable() && header.direction == Direction::Write;
     if needs_length && !header.options.length_present {
-        return Err(Refusal::LengthMissing);
+        return Err(Refusal::LengthMissing.into());
     }
     Command::parse(header.direction, opcode, data)
 }

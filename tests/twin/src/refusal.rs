@@ -1,4 +1,6 @@
-//! The refusal numbers.
+//! The refusal numbers, and where in a packet's data a value is at fault.
+
+use crate::fields::OutOfRange;
 
 /// The refusals of rule 4.1, in the order in which they are tried.
 #[derive(Clone, Copy, Debug, PartialEq, Eq, PartialOrd, Ord)]
@@ -34,5 +36,40 @@ impl Refusal {
     /// The number, as answers and replies carry it.
     pub fn number(self) -> u8 {
         self as u8
+    }
+}
+
+/// A value out of range by itself: what the compressor and the splitter refuse has no place.
+impl From<OutOfRange> for Refusal {
+    fn from(_: OutOfRange) -> Self {
+        Refusal::Range
+    }
+}
+
+/// A packet's refusal, which has a place if it is 10 (rule 4.6).
+#[derive(Clone, Copy, Debug, PartialEq, Eq)]
+pub struct Refused {
+    pub refusal: Refusal,
+    /// With refusal 10, where in the data the first field at fault begins; with any other 0.
+    pub place: u16,
+}
+
+impl Refused {
+    /// The refusal's number.
+    pub fn number(self) -> u8 {
+        self.refusal.number()
+    }
+}
+
+impl From<OutOfRange> for Refused {
+    fn from(fault: OutOfRange) -> Self {
+        Refused { refusal: Refusal::Range, place: fault.place as u16 }
+    }
+}
+
+impl From<Refusal> for Refused {
+    fn from(refusal: Refusal) -> Self {
+        debug_assert_ne!(refusal, Refusal::Range, "a value at fault has a place");
+        Refused { refusal, place: 0 }
     }
 }

@@ -33,15 +33,28 @@ fn is_gain(word: Word) -> bool {
     u16::from_le_bytes(word) <= HIGHEST_GAIN
 }
 
-/// Gains, if each is 0-8191.
-pub fn gains_in_range(gains: &[Word]) -> Result<&[Word], OutOfRange> {
-    gains.iter().all(|gain| is_gain(*gain)).then_some(gains).ok_or(OutOfRange)
+fn is_run(run: u16) -> bool {
+    (1..=LONGEST_RUN).contains(&run)
 }
 
-/// Pairs, if each run is 1-2,016 and each gain 0-8191.
+/// Gains, if each is 0-8191; else the first that isn't is at fault.
+pub fn gains_in_range(gains: &[Word]) -> Result<&[Word], OutOfRange> {
+    match gains.iter().position(|gain| !is_gain(*gain)) {
+        Some(index) => Err(OutOfRange { place: size_of::<Word>() * index }),
+        None => Ok(gains),
+    }
+}
+
+/// Pairs, if each run is 1-2,016 and each gain 0-8191; else the first word that isn't is at fault, of a
+/// pair the run before the gain.
 pub fn pairs_in_range(pairs: &[Pair]) -> Result<&[Pair], OutOfRange> {
-    let fits = |pair: &Pair| (1..=LONGEST_RUN).contains(&run(pair)) && is_gain(gain(pair));
-    pairs.iter().all(fits).then_some(pairs).ok_or(OutOfRange)
+    match pairs.iter().position(|pair| !is_run(run(pair)) || !is_gain(gain(pair))) {
+        Some(index) => {
+            let ahead = if is_run(run(&pairs[index])) { size_of::<Word>() } else { 0 };
+            Err(OutOfRange { place: size_of::<Pair>() * index + ahead })
+        }
+        None => Ok(pairs),
+    }
 }
 
 /// How many gains these pairs stand for.

@@ -1,6 +1,6 @@
 //! The settings that commands write and read, typed, with their ranges and their values after reset.
 
-use crate::fields::{within, Fields, OutOfRange, Word};
+use crate::fields::{Fields, OutOfRange, Word};
 
 /// Columns of a full warp map.
 pub const COLUMNS: usize = 62;
@@ -26,20 +26,25 @@ pub type Point = [u8; 4];
 /// The two lists of 35h as they lie there: 62 entries for the columns, then 32 for the rows.
 pub type Lists = [Word; COLUMNS + ROWS];
 
-/// Rule 5.5: both lists rise strictly.
+/// Rule 5.5: both lists rise strictly. At fault is the first entry no greater than its predecessor; the
+/// first entry of each list has none.
 pub fn rising(lists: &Lists) -> Result<&Lists, OutOfRange> {
-    let rises = |list: &[Word]| list.is_sorted_by(|a, b| u16::from_le_bytes(*a) < u16::from_le_bytes(*b));
     let (columns, rows) = lists.split_at(COLUMNS);
-    (rises(columns) && rises(rows)).then_some(lists).ok_or(OutOfRange)
+    match first_fall(columns).or_else(|| Some(COLUMNS + first_fall(rows)?)) {
+        Some(index) => Err(OutOfRange { place: size_of::<Word>() * index }),
+        None => Ok(lists),
+    }
+}
+
+/// The index of the first entry that is not above the one before it.
+fn first_fall(list: &[Word]) -> Option<usize> {
+    let falls = |beside: &[Word]| u16::from_le_bytes(beside[0]) >= u16::from_le_bytes(beside[1]);
+    Some(list.windows(2).position(falls)? + 1)
 }
 
 /// 1Ah: curtain colour 0, 2-8.
-pub fn curtain_colour(colour: u8) -> Result<u8, OutOfRange> {
-    if colour == 0 {
-        Ok(0)
-    } else {
-        within(colour, 2..=8)
-    }
+pub fn curtain_colour(colour: u8) -> Option<u8> {
+    matches!(colour, 0 | 2..=8).then_some(colour)
 }
 
 /// A pin as 60h sets it: direction, level, drain. 61h shares the level (rule 5.3).
@@ -73,8 +78,8 @@ pub struct Pwm {
 impl Pwm {
     pub fn take(fields: &mut Fields) -> Result<Self, OutOfRange> {
         Ok(Pwm {
-            frequency: within(fields.long(), 20..=10_390_000)?,
-            duty: within(fields.byte(), 0..=100)?,
+            frequency: fields.long_within(20..=10_390_000)?,
+            duty: fields.byte_within(0..=100)?,
             on: fields.flag()?,
         })
     }
@@ -114,12 +119,12 @@ impl Uart {
     pub fn take(fields: &mut Fields) -> Result<Self, OutOfRange> {
         Ok(Uart {
             on: fields.flag()?,
-            baud: within(fields.byte(), 0..=11)?,
-            bits: within(fields.byte(), 0..=3)?,
+            baud: fields.byte_within(0..=11)?,
+            bits: fields.byte_within(0..=3)?,
             stop: fields.flag()?,
-            parity: within(fields.byte(), 0..=2)?,
+            parity: fields.byte_within(0..=2)?,
             flow: fields.flag()?,
-            triggers: [within(fields.byte(), 0..=4)?, within(fields.byte(), 0..=4)?],
+            triggers: [fields.byte_within(0..=4)?, fields.byte_within(0..=4)?],
             polarity: fields.flag()?,
             source: fields.flag()?,
         })
@@ -154,14 +159,16 @@ impl<'a> ControlPoints<'a> {
     /// Mode 0's two numbers.
     pub fn take_even(fields: &mut Fields) -> Result<Self, OutOfRange> {
         Ok(ControlPoints::Even {
-            columns: within(fields.word(), 2..=COLUMNS as u16)?,
-            rows: within(fields.word(), 2..=ROWS as u16)?,
+            columns: fields.word_within(2..=COLUMNS as u16)?,
+            rows: fields.word_within(2..=ROWS as u16)?,
         })
     }
 
     /// Mode 1's two lists.
     pub fn take_listed(fields: &mut Fields<'a>) -> Result<Self, OutOfRange> {
-        Ok(ControlPoints::Listed(rising(fields.array())?))
+        let ahead = fields.place();
+        let lists = rising(fields.array()).map_err(|fault| fault.behind(ahead))?;
+        Ok(ControlPoints::Listed(lists))
     }
 
     /// The written form.

@@ -3,7 +3,7 @@ use Prim.Native.Nat.{_+_, _≤_}
 use mathlib.Core.Path.{sym, subst}
 use native.Mathlib.Omega.{arith}
 use lib.ListN.{length}
-use Rattle.packet.specs.Reading.{Answer, reading}
+use Rattle.packet.specs.Reading.{Answer}
 use Rattle.packet.proofs.Within.{Within, reading-within}
 use borrow.Author.Needs.{needs}
 use Rattle.bench.proofs.present.Statement.{statement}
@@ -34,23 +34,11 @@ enum-known-r c = search needs
 enum-told : tie.Need-enum-told
 enum-told c = search needs
 
-slice-aggregate-print-number : tie.Need-slice-aggregate-print-number
-slice-aggregate-print-number c = search needs
-
 refusal-requires : tie.Need-refusal-requires
 refusal-requires c κs = search needs
 
-cast-refusal : tie.Need-cast-print-number
-cast-refusal c = search needs
-
-print-number-requires : tie.Need-print-number-requires
-print-number-requires c κs = search needs
-
-slice-aggregate-write-all-2 : tie.Need-slice-aggregate-write-all-2
-slice-aggregate-write-all-2 c = search needs
-
-write-all-requires-2 : tie.Need-write-all-requires-2
-write-all-requires-2 c κs = search needs
+print-refusal-requires : tie.Need-print-refusal-requires
+print-refusal-requires c κs = search needs
 
 returns : tie.Need-returns
 returns c = search needs
@@ -67,17 +55,17 @@ slice-aggregate-print-byte-2 c = search needs
 print-byte-requires-2 : tie.Need-print-byte-requires-2
 print-byte-requires-2 c κs = search needs
 
+slice-aggregate-print-number : tie.Need-slice-aggregate-print-number
+slice-aggregate-print-number c = search needs
+
+print-number-requires : tie.Need-print-number-requires
+print-number-requires c κs = search needs
+
 slice-aggregate-print-number-2 : tie.Need-slice-aggregate-print-number-2
 slice-aggregate-print-number-2 c = search needs
 
 print-number-requires-2 : tie.Need-print-number-requires-2
 print-number-requires-2 c κs = search needs
-
-slice-aggregate-print-number-3 : tie.Need-slice-aggregate-print-number-3
-slice-aggregate-print-number-3 c = search needs
-
-print-number-requires-3 : tie.Need-print-number-requires-3
-print-number-requires-3 c κs = search needs
 
 cast-make : tie.Need-cast-make
 cast-make c = search needs
@@ -100,20 +88,20 @@ slice-aggregate-make c = search needs
 make-requires : tie.Need-make-requires
 make-requires c κs = search needs
 
-slice-aggregate-print-number-4 : tie.Need-slice-aggregate-print-number-4
-slice-aggregate-print-number-4 c = search needs
+slice-aggregate-print-number-3 : tie.Need-slice-aggregate-print-number-3
+slice-aggregate-print-number-3 c = search needs
 
-cast-print-number : tie.Need-cast-print-number-2
+cast-print-number : tie.Need-cast-print-number
 cast-print-number c = search needs
 
-print-number-requires-4 : tie.Need-print-number-requires-4
-print-number-requires-4 c κs = search needs
+print-number-requires-3 : tie.Need-print-number-requires-3
+print-number-requires-3 c κs = search needs
 
-slice-aggregate-write-all-3 : tie.Need-slice-aggregate-write-all-3
-slice-aggregate-write-all-3 c = search needs
+slice-aggregate-write-all-2 : tie.Need-slice-aggregate-write-all-2
+slice-aggregate-write-all-2 c = search needs
 
-write-all-requires-3 : tie.Need-write-all-requires-3
-write-all-requires-3 c κs = search needs
+write-all-requires-2 : tie.Need-write-all-requires-2
+write-all-requires-2 c κs = search needs
 
 slice-aggregate-bytes : tie.Need-slice-aggregate-bytes
 slice-aggregate-bytes c = search needs
@@ -121,11 +109,11 @@ slice-aggregate-bytes c = search needs
 bytes-requires-2 : tie.Need-bytes-requires-2
 bytes-requires-2 c κs = search needs
 
-slice-aggregate-write-all-4 : tie.Need-slice-aggregate-write-all-4
-slice-aggregate-write-all-4 c = search needs
+slice-aggregate-write-all-3 : tie.Need-slice-aggregate-write-all-3
+slice-aggregate-write-all-3 c = search needs
 
-write-all-requires-4 : tie.Need-write-all-requires-4
-write-all-requires-4 c κs = search needs
+write-all-requires-3 : tie.Need-write-all-requires-3
+write-all-requires-3 c κs = search needs
 
 returns-2 : tie.Need-returns-2
 returns-2 c = search needs
@@ -140,21 +128,17 @@ present-spec =
     read-requires
     enum-known-r
     enum-told
-    slice-aggregate-print-number
     refusal-requires
-    cast-refusal
-    print-number-requires
-    slice-aggregate-write-all-2
-    write-all-requires-2
+    print-refusal-requires
     returns
     slice-aggregate-print-byte
     print-byte-requires
     slice-aggregate-print-byte-2
     print-byte-requires-2
+    slice-aggregate-print-number
+    print-number-requires
     slice-aggregate-print-number-2
     print-number-requires-2
-    slice-aggregate-print-number-3
-    print-number-requires-3
     cast-make
     add-make
     sub-make
@@ -162,13 +146,13 @@ present-spec =
     part-make-end
     slice-aggregate-make
     make-requires
-    slice-aggregate-print-number-4
+    slice-aggregate-print-number-3
     cast-print-number
-    print-number-requires-4
-    slice-aggregate-write-all-3
-    write-all-requires-3
+    print-number-requires-3
+    slice-aggregate-write-all-2
+    write-all-requires-2
     slice-aggregate-bytes
     bytes-requires-2
-    slice-aggregate-write-all-4
-    write-all-requires-4
+    slice-aggregate-write-all-3
+    write-all-requires-3
     returns-2)

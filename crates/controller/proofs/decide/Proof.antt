@@ -36,7 +36,7 @@ enum-told c = search needs
 returns : tie.Need-returns
 returns c =
     let told = c .enum-told .given .1 in
-    rw told (refusal-stands _ _ _ (rw told at (c .before .before .read .ensures .outcome)))
+    rw told (refusal-stands _ _ _ _ (rw told at (c .before .before .read .ensures .outcome)))
 
 cast-runs-past : tie.Need-cast-runs-past
 cast-runs-past c = search needs
@@ -65,7 +65,7 @@ by-requires c κs = search needs
 returns-2 : tie.Need-returns-2
 returns-2 c =
     let called = c .before .before in
-    rw (c .by .ensures)
+    rw (c .by .ensures .0, c .by .ensures .1)
     (rw (c .before .if1 .taken) at (command-placed _ _ _ _ _ _ _ (command (called .before .before)) (called .runs-past .ensures)))
 
 returns-3 : tie.Need-returns-3

@@ -1,4 +1,5 @@
 -- A refusal is answered as its step; a command is performed as the decision gives it.
+use Rattle.controller.proofs.Bounds.{decision-fault}
 use Rattle.controller.proofs.Demands.{lent}
 use Rattle.controller.proofs.Grants.{answers-refusal}
 use borrow.Author.Needs.{needs}
@@ -15,7 +16,8 @@ enum-told : tie.Need-enum-told
 enum-told c = search needs
 
 refuse-requires : tie.Need-refuse-requires
-refuse-requires c κs = lent _ _ (c .before .before .before .before .before .before .before .before .before .before .before .pre) .room
+refuse-requires c κs =
+    (decision-fault _ _ (c .before .before .before .decide .ensures), lent _ _ (c .before .before .before .before .before .before .before .before .before .before .before .pre) .room)
 
 same-length : tie.Need-same-length
 same-length c = search needs

@@ -1,7 +1,7 @@
 -- Data as its bytes one by one, its 16-bit numbers as a table's, and the test on a list that rises: the index of the first
--- number at fault is the list's length exactly if none is.
-use Prim.Native.Nat.{ℕ, zero, suc, _+_, _*_, _≤_}
-use mathlib.Core.Path.{_≡_, refl, ap, _∙_}
+-- number at fault is the list's length exactly if none is, and it is the first that is not above the one before it.
+use Prim.Native.Nat.{ℕ, zero, suc, _+_, _*_, _≤_, _<_}
+use mathlib.Core.Path.{_≡_, refl, sym, ap, _∙_}
 use mathlib.Core.List.{List, [], _∷_, _++_, append-nil}
 use native.Mathlib.Decide.{decLt}
 use native.Mathlib.Numerals.{add-one, add-two}
@@ -9,7 +9,9 @@ use native.Mathlib.Omega.{arith}
 use lib.ListN.{length, take, drop, getD, length-drop, drop-of-length-le}
 use lib.Seq.{drop-cons, take-all}
 use borrow.Author.Tests.{lt-ltb, le-ltb}
+use Rattle.wire.specs.Numbers.{wordAt}
 use Rattle.wire.specs.Tables.{words}
+use Rattle.runs.proofs.Places.{FirstWrong, wrong-none, wrong-here, wrong-past}
 use Rattle.opcode.specs.Fields.{wordsAt, riseFrom, rise}
 use Rattle.opcode.specs.Allowed.{Rising, empty, single, next}
 
@@ -82,3 +84,43 @@ pub rise-rising : (ws : List ℕ) → length ws ≤ rise ws → Rising ws
 unfolding rise
 rise-rising [] h = empty
 rise-rising (w ∷ ws) h = rising-from w ws (omega arith)
+
+-- Numbers one behind the other: the i-th one's place, and that it is above the one before it, if it is not the first.
+abbrev placeFrom : ℕ → ℕ → ℕ
+placeFrom at zero = at
+placeFrom at (suc i) = placeFrom (at + 2) i
+
+place-from : (at i : ℕ) {p : ℕ} → p ≡ at + 2 * i → p ≡ placeFrom at i
+place-from at zero e = omega arith
+place-from at (suc i) e = place-from (at + 2) i (omega arith)
+
+abbrev Above : List ℕ → ℕ → ℕ → Type 0
+Above d at zero = Unit
+Above d at (suc i) = wordAt d (placeFrom at i) < wordAt d (placeFrom (at + 2) i)
+
+from-first : (n : ℕ) (d : List ℕ) (at : ℕ) → FirstWrong (λ i. Above d at (suc i)) n (riseFrom (wordAt d at) (wordsAt d (at + 2) n))
+unfolding wordsAt riseFrom
+from-first zero d at = wrong-none
+from-first (suc n) d at =
+    elim (decLt (wordAt d at) (wordAt d (at + 2))) [
+      | yes l ↦ rw (lt-ltb (wordAt d at) (wordAt d (at + 2)) l) (wrong-past l (from-first n d (at + 2)))
+      | no l ↦ rw (le-ltb (wordAt d at) (wordAt d (at + 2)) (omega arith)) (wrong-here l)
+    ]
+
+module _ (n : ℕ) (d : List ℕ) (at : ℕ) where
+  rise-first : FirstWrong (Above d at) (suc n) (rise (wordsAt d at (suc n)))
+  unfolding wordsAt rise
+  rise-first = wrong-past tt (from-first n d at)
+
+  pub rises : (i : ℕ) {p q : ℕ} → p ≡ at + 2 * i → q ≡ at + 2 * (i + 1) → i + 1 < rise (wordsAt d at (suc n)) → wordAt d p < wordAt d q
+  rises i e f h = rw (place-from at i e, place-from (at + 2) i (f ∙ omega arith)) (rise-first .before (suc i) (omega arith))
+
+  pub stops : rise (wordsAt d at (suc n)) < suc n
+      → (i : ℕ) × (rise (wordsAt d at (suc n)) ≡ i + 1) × (wordAt d (at + 2 * (i + 1)) ≤ wordAt d (at + 2 * i))
+  stops h = go (rise (wordsAt d at (suc n))) refl (rise-first .here h)
+    where
+      go : (r : ℕ) → rise (wordsAt d at (suc n)) ≡ r → ¬ Above d at r
+          → (i : ℕ) × (rise (wordsAt d at (suc n)) ≡ i + 1) × (wordAt d (at + 2 * (i + 1)) ≤ wordAt d (at + 2 * i))
+      go zero e w = absurd (w tt)
+      go (suc i) e w =
+          (i, e ∙ sym (add-one i), rw (place-from at i {p = at + 2 * i} refl, place-from (at + 2) i {p = at + 2 * (i + 1)} (omega arith)) (omega arith))

@@ -19,10 +19,17 @@ use Rattle.opcode.proofs.Accepts.Commands.{sets-span, sets-sized}
 abbrev pub namedWrite : ℕ → List ℕ → Bool
 namedWrite op d = eqb op 0x39 && eqb (byteAt d 0) 1
 
+-- 9 and 10 of a write.
+abbrev pub writeSizeWrong : ℕ → List ℕ → Bool
+writeSizeWrong op d = cond (eqb (commandOf op .mark) variable) (variableSizeWrong op d) (not (eqb (length d) (commandOf op .write)))
+
+abbrev pub writeFault : ℕ → List ℕ → ℕ
+writeFault op d = cond (eqb (commandOf op .mark) variable) (variableFault op d) (fault (commandOf op .sets) d 0)
+
 -- None of the three holds.
 pub record Passes (op : ℕ) (d : List ℕ) : Type 0 where
-  pub size : cond (eqb (commandOf op .mark) variable) (variableSizeWrong op d) (not (eqb (length d) (commandOf op .write))) ≡ false
-  pub value : ltb (cond (eqb (commandOf op .mark) variable) (variableFault op d) (fault (commandOf op .sets) d 0)) (length d) ≡ false
+  pub size : writeSizeWrong op d ≡ false
+  pub value : ltb (writeFault op d) (length d) ≡ false
   pub namedOnly : namedWrite op d ≡ false
 
 pub passes-silent : (op o : ℕ) (d : List ℕ) → isRead o ≡ 0 → unknown op ≡ false → lacksLength op o ≡ false → Passes op d

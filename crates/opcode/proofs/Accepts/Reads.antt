@@ -17,7 +17,7 @@ use Rattle.opcode.proofs.Accepts.Lists.{bytesAt, exactly}
 use Rattle.opcode.proofs.Accepts.Commands.{_&_, of-carried, asks-span, asks-sized}
 
 -- The data of a read is all fields.
-abbrev RightRead : ℕ → List ℕ → Type 0
+abbrev pub RightRead : ℕ → List ℕ → Type 0
 RightRead op d = Right (commandOf op .read) (commandOf op .asks) d
 
 right-silent : (op o : ℕ) (d : List ℕ) → isRead o ≡ 1 → unknown op ≡ false → RightRead op d → Silent (judgement op o d)
@@ -70,7 +70,7 @@ right-data =
     & tt)
 
 -- From the data to the tests.
-nothing-right : {op : ℕ} → SendsNothing op → (0 < commandOf op .mark) × RightRead op []
+pub nothing-right : {op : ℕ} → SendsNothing op → (0 < commandOf op .mark) × RightRead op []
 unfolding commandOf
 nothing-right SendsNothing.read-11 = omega arith
 nothing-right SendsNothing.read-12 = omega arith

@@ -75,7 +75,7 @@ smooth-passes d a e =
     }
 
 -- 2Bh: as many words as the count says.
-words-long : (d : List ℕ) → length d ≡ 6 + 2 * wordAt d 2 → length (words (drop 6 d)) ≡ wordAt d 2
+pub words-long : (d : List ℕ) → length d ≡ 6 + 2 * wordAt d 2 → length (words (drop 6 d)) ≡ wordAt d 2
 words-long d e = rw (length-pairs, length-drop) (omega arith)
 
 -- What the tests tell before the flag does.
@@ -118,12 +118,13 @@ passes-gains d p =
           rw (headed d 6 (t .long), plain) (search (WriteData.gains, arith))
     ]
 
+-- Its size, whatever its values are.
+pub gains-sized : (d : List ℕ) → length d ≡ 6 + 2 * wordAt d 2 → inPairs d && eqb (wordAt d 2 % 2) 1 ≡ false → gainsSizeWrong d ≡ false
+unfolding gainsSizeWrong
+gains-sized d e h = rw (le-leb 6 (length d) (omega arith), eq-eqb (length d) (6 + 2 * wordAt d 2) e, h)
+
 -- Of data of the right size, with its fields in range and no word at fault; pairs, of an even count.
 module _ (d : List ℕ) (a : All (commandOf 0x2B .sets) d 0) (e : length d ≡ 6 + 2 * wordAt d 2) where
-  sized : inPairs d && eqb (wordAt d 2 % 2) 1 ≡ false → gainsSizeWrong d ≡ false
-  unfolding gainsSizeWrong
-  sized h = rw (le-leb 6 (length d) (omega arith), eq-eqb (length d) (6 + 2 * wordAt d 2) e, h)
-
   valued : wordsFault d ≡ length (words (drop 6 d)) → ltb (gainsFault d) (length d) ≡ false
   unfolding commandOf gainsFault
   valued h =
@@ -133,13 +134,13 @@ module _ (d : List ℕ) (a : All (commandOf 0x2B .sets) d 0) (e : length d ≡ 6
   pub gains-passes : byteAt d 0 ≡ 0 → ((k : ℕ) → getD (words (drop 6 d)) k 0 ≤ 8191) → Passes 0x2B d
   unfolding commandOf wordsFault
   gains-passes z h =
-      record { size = sized (rw z); value = valued (rw z (small-gains (words (drop 6 d)) h)); namedOnly = refl }
+      record { size = gains-sized d e (rw z); value = valued (rw z (small-gains (words (drop 6 d)) h)); namedOnly = refl }
 
   pub runs-passes : byteAt d 0 ≡ 1 → Pairs (words (drop 6 d)) → Passes 0x2B d
   unfolding commandOf wordsFault
   runs-passes z h =
       let even : wordAt d 2 % 2 ≡ 0 = omega (arith, words-long d e, pairs-even h) in
-      record { size = sized (rw (z, even)); value = valued (rw z (pairs-fault h)); namedOnly = refl }
+      record { size = gains-sized d e (rw (z, even)); value = valued (rw z (pairs-fault h)); namedOnly = refl }
 
 -- 35h, mode 0.
 right-shape : (d : List ℕ) → byteAt d 0 ≡ 0 → Right 5 (commandOf 0x35 .sets) d → WriteData 0x35 d

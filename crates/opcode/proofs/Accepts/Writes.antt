@@ -119,7 +119,7 @@ data-good b (WriteData.runs h i e s) =
 
 -- ---- The length field.
 
-needs-variable : {op : ℕ} → NeedsLength op → commandOf op .mark ≡ variable
+pub needs-variable : {op : ℕ} → NeedsLength op → commandOf op .mark ≡ variable
 unfolding commandOf
 needs-variable NeedsLength.write-2B = refl
 needs-variable NeedsLength.write-34 = refl

@@ -7,7 +7,7 @@ by-requires : tie.Need-by-requires
 by-requires c κs = search needs
 
 returns : tie.Need-returns
-returns c = rw (c .by .ensures)
+returns c = rw (c .by .ensures .0, c .by .ensures .1)
 
 pub broken-spec : {M : Type 1} → statement M
 broken-spec = tie.close (tie.spec by-requires returns)

@@ -35,7 +35,7 @@ returns c =
     let told = c .before in
     let found = told .before .before in
     read-promised _ (λ k. found .before .shared-slice-known .given k .fits)
-    (c .refused .ensures ∙ rw (told .enum-told .given .1) (broken-read _ _ (rw (told .enum-told .given .1) at (found .frame-of .ensures))))
+    (c .refused .ensures ∙ rw (told .enum-told .given .1) (broken-read _ _ _ (rw (told .enum-told .given .1) at (found .frame-of .ensures))))
 
 cast-judge : tie.Need-cast-judge
 cast-judge c = search needs
@@ -60,17 +60,17 @@ returns-2 c =
     let judged = c .before .before in
     let framed = judged .before .before .before in
     read-promised _ (λ k. framed .before .before .before .shared-slice-known .given k .fits)
-    (rw (ne-eqb _ _ (c .if1 .taken)) at (judged-read _ _ _ _ _ _ (sound framed) (judged .judge .ensures)))
+    (rw (ne-eqb _ _ (c .if1 .taken)) at (judged-read _ _ _ _ _ _ _ (sound framed) (judged .judge .ensures)))
 
 cast-t15 : tie.Need-cast-t15
-cast-t15 c = omega (arith, carried-below _ _ _ (sym (c .before .before .judge .ensures) ∙ c .if1 .left))
+cast-t15 c = omega (arith, carried-below _ _ _ (sym (c .before .before .judge .ensures .0) ∙ c .if1 .left))
 
 returns-3 : tie.Need-returns-3
 returns-3 c =
     let judged = c .before .before in
     let framed = judged .before .before .before in
     read-promised _ (λ k. framed .before .before .before .shared-slice-known .given k .fits)
-    (rw (eq-eqb _ _ (c .if1 .left)) at (judged-read _ _ _ _ _ _ (sound framed) (judged .judge .ensures)))
+    (rw (eq-eqb _ _ (c .if1 .left)) at (judged-read _ _ _ _ _ _ _ (sound framed) (judged .judge .ensures)))
 
 pub read-spec : {M : Type 1} → statement M
 read-spec =

@@ -16,7 +16,7 @@ returns : tie.Need-returns
 returns c = rw (c .before .frame .given .1)
 
 returns-2 : tie.Need-returns-2
-returns-2 c = rw (c .by .ensures, c .before .enum-told .given .1)
+returns-2 c = rw (c .by .ensures .0, c .by .ensures .1, c .before .enum-told .given .1)
 
 pub refused-spec : {M : Type 1} → statement M
 refused-spec = tie.close (tie.spec enum-known-frame enum-told by-requires returns returns-2)

@@ -36,9 +36,9 @@ refusal-requires c κs = search needs
 
 returns : tie.Need-returns
 returns c =
-    let told = c .before .before in
+    let told = c .before in
     let refused = rw (told .enum-told .given .1) at (told .before .before .read-reply .ensures) in
-    let number = rw (told .enum-told .given .1) at (c .before .refusal .ensures) in
+    let number = rw (told .enum-told .given .1) at (c .refusal .ensures) in
     reply-refused _ _ _ (omega arith) (rw (← number) at refused)
 
 cast-result : tie.Need-cast-result

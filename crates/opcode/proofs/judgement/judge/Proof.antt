@@ -2,10 +2,11 @@
 use Prim.Native.Nat.{ℕ}
 use mathlib.Core.Path.{_≡_, sym, _∙_}
 use mathlib.Core.List.{List}
-use borrow.Author.Tests.{lt-ltb, le-ltb}
+use native.Mathlib.Omega.{arith}
+use borrow.Author.Tests.{lt-ltb, le-ltb, ne-eqb}
 use lib.ListN.{drop}
 use Rattle.wire.specs.First.{first}
-use Rattle.opcode.specs.Judgement.{judgement}
+use Rattle.opcode.specs.Judgement.{judgement, faultPlace, valueFault}
 use Rattle.opcode.proofs.judgement.judge.Statement.{statement}
 use Rattle.opcode.proofs.judgement.judge.Tie as tie
 
@@ -37,6 +38,15 @@ past-10 : (c : tie.Else4)
 unfolding judgement
 past-10 c = past-9 (c .before .before) ∙ simp (← c .before .value-fault .ensures, le-ltb _ _ (c .if4 .left))
 
+-- The number that the tests come to, and no place with it; or 10, and the place of the value at fault.
+told : (op o n : ℕ) (d : List ℕ) {number at : ℕ} → (n ≡ 10 → ⊥) → (number ≡ n) × (at ≡ 0) → n ≡ first (judgement op o d)
+    → (number ≡ first (judgement op o d)) × (at ≡ faultPlace (first (judgement op o d)) op o d)
+told op o n d other r e = rw (← e) (r .0, r .1 ∙ rw (ne-eqb n 10 other))
+
+value-told : (op o : ℕ) (d : List ℕ) {number at fault : ℕ} → fault ≡ valueFault op o d → (number ≡ 10) × (at ≡ fault) → 10 ≡ first (judgement op o d)
+    → (number ≡ first (judgement op o d)) × (at ≡ faultPlace (first (judgement op o d)) op o d)
+value-told op o d f r e = rw (← e) (r .0, r .1 ∙ f)
+
 pub judge-spec : {M : Type 1} → statement M
 unfolding judgement
 judge-spec =
@@ -45,18 +55,30 @@ judge-spec =
     (λ c κs. tt)
     (λ c κs. c .row-at .ensures)
     (λ c κs. tt)
-    (λ c. rw (c .by .ensures) (simp (← c .before .before .unknown .ensures, c .before .if1 .taken)))
+    (λ c.
+    let args = c .before .before .before .before .before .args in
+    told (args .opcode) (args .options) 7 (args .«data» .now) (omega arith) (c .by .ensures) (simp (← c .before .before .unknown .ensures, c .before .if1 .taken)))
     (λ c κs. c .before .before .row-at .ensures)
     (λ c κs. tt)
-    (λ c. rw (c .by2 .ensures) (sym (past-7 (c .before .before .before) ∙ simp (← c .before .before .lacks-length .ensures, c .before .if2 .taken))))
+    (λ c.
+    let args = c .before .before .before .before .before .before .before .args in
+    told (args .opcode) (args .options) 8 (args .«data» .now) (omega arith) (c .by2 .ensures) (sym (past-7 (c .before .before .before) ∙ simp (← c .before .before .lacks-length .ensures, c .before .if2 .taken))))
     (λ c κs. c .before .before .before .before .row-at .ensures)
     (λ c κs. tt)
-    (λ c. rw (c .by3 .ensures) (sym (past-8 (c .before .before .before) ∙ simp (← c .before .before .size-wrong .ensures, c .before .if3 .taken))))
+    (λ c.
+    let args = c .before .before .before .before .before .before .before .before .before .args in
+    told (args .opcode) (args .options) 9 (args .«data» .now) (omega arith) (c .by3 .ensures) (sym (past-8 (c .before .before .before) ∙ simp (← c .before .before .size-wrong .ensures, c .before .if3 .taken))))
     (λ c κs. c .before .before .before .before .before .before .row-at .ensures)
     (λ c κs. tt)
-    (λ c. rw (c .by4 .ensures) (sym (past-9 (c .before .before .before) ∙ simp (← c .before .before .value-fault .ensures, lt-ltb _ _ (c .before .if4 .taken)))))
+    (λ c.
+    let args = c .before .before .before .before .before .before .before .before .before .before .before .args in
+    value-told (args .opcode) (args .options) (args .«data» .now) (c .before .before .value-fault .ensures) (c .value-at .ensures) (sym (past-9 (c .before .before .before) ∙ simp (← c .before .before .value-fault .ensures, lt-ltb _ _ (c .before .if4 .taken)))))
     (λ c κs. tt)
     (λ c κs. tt)
-    (λ c. rw (c .by5 .ensures) (sym (past-10 (c .before .before .before) ∙ simp (← c .before .before .named-only .ensures, c .before .if5 .taken))))
+    (λ c.
+    let args = c .before .before .before .before .before .before .before .before .before .before .before .before .before .args in
+    told (args .opcode) (args .options) 11 (args .«data» .now) (omega arith) (c .by4 .ensures) (sym (past-10 (c .before .before .before) ∙ simp (← c .before .before .named-only .ensures, c .before .if5 .taken))))
     (λ c κs. tt)
-    (λ c. rw (c .by6 .ensures) (sym (past-10 (c .before .before .before) ∙ simp (← c .before .before .named-only .ensures, c .before .if5 .left)))))
+    (λ c.
+    let args = c .before .before .before .before .before .before .before .before .before .before .before .before .before .args in
+    told (args .opcode) (args .options) 0 (args .«data» .now) (omega arith) (c .by5 .ensures) (sym (past-10 (c .before .before .before) ∙ simp (← c .before .before .named-only .ensures, c .before .if5 .left)))))

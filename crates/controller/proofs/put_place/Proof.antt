@@ -1,0 +1,21 @@
+-- Refusal 10 stores its place, any other number nothing.
+use mathlib.Core.Path.{refl}
+use borrow.Author.Tests.{eq-eqb, ne-eqb}
+use borrow.Author.Needs.{needs}
+use Rattle.controller.proofs.put_place.Statement.{statement}
+use Rattle.controller.proofs.put_place.Tie as tie
+
+put-word-requires : tie.Need-put-word-requires
+put-word-requires c κs = search needs
+
+same-length : tie.Need-same-length
+same-length c = search needs
+
+returns : tie.Need-returns
+returns c = rw (eq-eqb _ _ (c .before .before .before .before .if1 .taken)) (refl, c .before .before .put-word .ensures)
+
+returns-2 : tie.Need-returns-2
+returns-2 c = rw (ne-eqb _ _ (c .if1 .left)) (refl, refl)
+
+pub put-place-spec : {M : Type 1} → statement M
+put-place-spec = tie.close (tie.spec put-word-requires same-length returns returns-2)
