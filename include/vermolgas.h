@@ -12,8 +12,8 @@
  *
  * Every answer is one number. Its low byte is 0 if the call was accepted, else the number of the refusal: take it out
  * with VERMOLGAS_STATUS, for a refusal may have other bits, too. Where a packet is refused with 10, by
- * vermolgas_packet, vermolgas_read or vermolgas_make, VERMOLGAS_FAULT_PLACE says which byte of its data is at fault;
- * what is not named is reserved. After a refusal every buffer is unchanged; vermolgas_packet alone still writes its
+ * vermolgas_packet, vermolgas_read or vermolgas_make, VERMOLGAS_FAULT_PLACE says where in its data the field at fault
+ * begins; what is not named is reserved. After a refusal every buffer is unchanged; vermolgas_packet alone still writes its
  * reply, and answers its length. The macros below take an answer apart; each uses its argument once. Keep an answer in
  * a uint64_t: compilers warn where one is ignored, the macros do not compile on fewer bits, and -Wconversion warns
  * where bits are lost.
@@ -265,12 +265,12 @@ VERMOLGAS_ENUM(vermolgas_uart_source) { VERMOLGAS_UART_SOURCE_RXD = 0, VERMOLGAS
 /* Any answer: 0 or the refusal. */
 #define VERMOLGAS_STATUS(answer) VERMOLGAS_FIELD(unsigned, answer, 0, 0xFFu)
 
-/* Which byte is at fault, for an answer of vermolgas_packet, vermolgas_read or vermolgas_make whose status is 10: where
+/* The place of the fault, for an answer of vermolgas_packet, vermolgas_read or vermolgas_make whose status is 10: where
  * in the packet's data the first field begins whose value is out of range. Data begins behind the header, the opcode
  * and the length field, if there is one; these do not count. In 6Dh the port is byte 0 and the parity byte 5, in 65h
- * the frequency byte 1, whichever of its four is wrong. In the two lists of 35h an entry is at fault if it is no
- * greater than its predecessor: entry k of all 94 is at byte 1 + 2 x k. In 2Bh word k is at byte 6 + 2 x k, and of a
- * pair the run comes first.
+ * the frequency byte 1, whichever of its four is wrong. Counting from 0, entry k of the 94 in both lists of 35h is at
+ * byte 1 + 2 x k, and is at fault if it is no greater than its predecessor in its own list (entries 0 and 62 have
+ * none). In 2Bh word k is at byte 6 + 2 x k, and of a pair the run comes first.
  *
  * On any other refusal of these three it is 0. It says nothing of what was accepted: there vermolgas_read has the
  * length of the data in these bits. Refusals by 10 of the other entries are about no packet, and have no place. */

@@ -10,8 +10,9 @@
  * to as many bytes as the length behind it says, and what is written overlaps nothing else that is lent.
  *
  * A packet that is refused with 10 has a value out of range, and the structs say in fault_place where: by the offset of
- * the field in the packet's data, as VERMOLGAS_FAULT_PLACE has it. With any other status fault_place is 0.
- * vermolgas_refusal_line puts it into words. What answers a status alone, as planning does, has no place.
+ * the field in the packet's data, as VERMOLGAS_FAULT_PLACE has it. With any other status fault_place is 0. A reply over
+ * a line may have status 10 and no place: that is VERMOLGAS_NO_PLACE. vermolgas_refusal_line puts it into words. What
+ * answers a status alone, as planning does, has no place.
  *
  * Names that end in an underscore are the layer's own.
  */

@@ -8,7 +8,7 @@ ghost use mathlib.Core.Path.{_≡_};
 ghost use mathlib.Core.Bool.{cond, true};
 ghost use Prim.Native.Nat.{_+_, _^_, _<_, _≤_};
 ghost use lib.ListN.{length, take, drop};
-ghost use lib.Seq.{paste, sets};
+ghost use lib.Seq.{paste};
 ghost use lib.Dec.{eqb, ltb};
 ghost use Rattle.wire.specs.Buffers.{Overwrites};
 ghost use Rattle.wire.specs.First.{first};
@@ -183,18 +183,17 @@ pub fn acknowledge(packet: &[u8], number: usize, fault: usize, reply: &mut [u8])
     if number == 1 {
         return 0;
     }
-    let n = put_place(reply, number, fault);
+    let n = put_place(&mut reply[3..], number, fault);
     reply::seal(reply, number, n, header / bits::SUM % 2 == 1)
 }
 
-// The data of such a reply, behind its head: of refusal 10 the place in two bytes, else none. Answers its size.
-fn put_place(reply: &mut [u8], number: usize, fault: usize) -> usize
-    requires { ⌜ (fault < 65536) × (replyRoom ≤ length (now reply)) ⌝ }
-    ensures { λ r. ⌜ (r ≡ length (placeData number fault))
-        × (now (reply .exit) ≡ sets (now (reply .entry)) 3 (placeData number fault)) ⌝ }
+// The data of such a reply, over the start of the buffer: of refusal 10 the place in two bytes, else none. Answers its size.
+fn put_place(out: &mut [u8], number: usize, fault: usize) -> usize
+    requires { ⌜ (fault < 65536) × (dataRoom ≤ length (now out)) ⌝ }
+    ensures { λ r. ⌜ Overwrites r (placeData number fault) (now (out .entry)) (now (out .exit)) ⌝ }
 {
     if number == 10 {
-        wire::put_word(reply, 3, fault);
+        wire::put_word(out, 0, fault);
         return 2;
     }
     0

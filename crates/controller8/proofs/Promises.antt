@@ -35,7 +35,7 @@ unfolding stepBytes
 step-bytes p s reply z = rw (right-sized (lentOf s) (lent-bytes s z), again s)
 
 -- Lengths that the test refuses are not right.
-wrong : (l : Lent) → byteLengthsRight l ≡ false → BytesLent l → ⊥
+pub wrong : (l : Lent) → byteLengthsRight l ≡ false → BytesLent l → ⊥
 wrong l e z = true≢false (sym (right-sized l z) ∙ e)
 
 pub handled-bytes : (p : List ℕ) → ((k : ℕ) → getD p k 0 < 256) → (l : Lent) → Small l → (reply : List ℕ) {o : LentOut} → o ≡ stepBytes p l reply

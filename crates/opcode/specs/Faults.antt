@@ -1,4 +1,4 @@
--- Rule 4.6: where the first value at fault stands, said from the fields of each command and not by way of the tests that find it. Elements are bytes.
+-- Rule 4.6: where the first value at fault stands, from a list of all fields that can be at fault and not by way of the tests that find it. Elements are bytes.
 use Prim.Native.Nat.{ℕ, _+_, _*_, _≤_, _<_}
 use mathlib.Core.Path.{_≡_}
 use mathlib.Core.Logic.{_⊎_}

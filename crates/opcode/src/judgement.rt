@@ -55,7 +55,7 @@ pub fn judge(opcode: usize, options: usize, data: &[u8]) -> Refusal
     if named_only(opcode, options, data) {
         return Refusal::by(11);
     }
-    Refusal::by(0)
+    wire::ACCEPTED
 }
 
 // 7: the opcode is not carried.

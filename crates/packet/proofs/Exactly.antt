@@ -93,6 +93,9 @@ past-six p f h =
 pub frame-number : (p : List ℕ) → FrameNumber p (reading p .number)
 frame-number p =
     record {
+      announces = refl;
+      length-at = refl;
+      data-rest = refl;
       two = λ h. reading-number p ∙ rw (lt-ltb _ _ h);
       three = λ w h. reading-number p ∙ rw (le-ltb _ _ w, lt-ltb _ _ h);
       four = λ w s o h. reading-number p ∙ rw (le-ltb _ _ w, le-ltb _ _ s, eq-eqb _ _ o, ne-eqb _ _ h);

@@ -2,7 +2,7 @@
 -- and of their C entries.
 use Prim.Native.Nat.{ℕ, _+_, _≤_, _<_}
 use mathlib.Core.Path.{_≡_}
-use mathlib.Core.Logic.{_↔_}
+use mathlib.Core.Logic.{_↔_, _⊎_}
 use mathlib.Core.List.{List}
 use lib.ListN.{length, take, drop}
 use Rattle.wire.specs.Buffers.{over}
@@ -33,6 +33,8 @@ pub record PacketRead (p : List ℕ) (a : Answer) : Type 0 where
   pub command-number : CommandNumber (opcodeOf p) (optionsOf p) (dataOf p) (a .number)
   -- Rule 4.6: a refusal by 10 has the place of the first fault, any other none.
   pub located : Located (opcodeOf p) (optionsOf p) (dataOf p) (a .number) (a .fault)
+  -- Rule 2.6: a refusal has nothing but its number and its place.
+  pub nothing-else : (a .number ≡ 0 → ⊥) → (a .opcode ≡ 0) × (a .options ≡ 0) × (a .place ≡ 0) × (a .size ≡ 0)
   pub again : a .number ≡ 0 → (buffer : List ℕ) → 512 ≤ length buffer → MadeAgain p a buffer
 
 -- Rule 4.5: what was made reads back as the command and the options that it was made from, and its data byte for byte.
@@ -50,6 +52,9 @@ pub record PacketMade (op options : ℕ) (d buffer : List ℕ) (m : Made) : Type
   pub short : length buffer < 512 → m .status ≡ 1
   pub refusal : 512 ≤ length buffer → (m .status ≡ reading (packetOf op (optionsIn options) d) .number)
       × (m .fault ≡ reading (packetOf op (optionsIn options) d) .fault)
+  -- Rule 4.4: 3 where the packet would be too long; of what fits none of 1 to 6.
+  pub long : 512 ≤ length buffer → 512 < fields (optionsIn options) + length d → m .status ≡ 3
+  pub fits : 512 ≤ length buffer → fields (optionsIn options) + length d ≤ 512 → (m .status ≡ 0) ⊎ (6 < m .status)
   -- Rule 4.1: which of 7 to 11 is given, said apart from the tests.
   pub command-number : CommandNumber op (optionsIn options) d (m .status)
   pub located : Located op (optionsIn options) d (m .status) (m .fault)

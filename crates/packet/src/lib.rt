@@ -42,7 +42,7 @@ impl Reading {
                 options: _,
                 at: _,
                 size: _,
-            } => Refusal::by(0),
+            } => wire::ACCEPTED,
         }
     }
 }
@@ -165,7 +165,7 @@ fn refused(frame: Frame) -> Reading
             options: _,
             at: _,
             size: _,
-        } => Reading::Refused(Refusal::by(0)),
+        } => Reading::Refused(wire::ACCEPTED),
     }
 }
 

@@ -7,7 +7,7 @@ use native.Mathlib.Nat.{add-comm}
 use native.Mathlib.Numerals.{add-one, add-three}
 use native.Mathlib.Omega.{arith}
 use lib.ListN.{length, take, drop, set, length-append, length-drop, take-append-drop}
-use lib.Seq.{sets, sets-eq, drop-drop, drop-append-le, length-take-le, take-append-seam, drop-append-seam, set-append-seam, drop-cons, append-snoc}
+use lib.Seq.{sets, drop-drop, drop-append-le, length-take-le, take-append-seam, drop-append-seam, set-append-seam, drop-cons, append-snoc}
 use borrow.Rule.Slice.PartMut.{midOf, putMid}
 use Rattle.wire.specs.Numbers.{wordBytes}
 use Rattle.wire.specs.Checksum.{checksum}
@@ -67,18 +67,6 @@ unfolding over
 over-behind sum status d b buffer e =
     let long : length (replyBytes sum status d) ≡ 3 + length d + sumSize sum = omega (arith, length-reply sum status d) in
     rw (long, ← drop-drop (sumSize sum) (3 + length d) b, e, drop-drop (sumSize sum) (3 + length d) buffer)
-
--- Data d was stored behind the head: it stands there, and what lies behind it is as it was.
-pub stored-behind : (d buffer : List ℕ) → 3 + length d ≤ length buffer → (sum : Bool) (status : ℕ)
-    → (length (replyBytes sum status (take (length d) (drop 3 (sets buffer 3 d)))) ≡ length (replyBytes sum status d))
-    × (over (replyBytes sum status (take (length d) (drop 3 (sets buffer 3 d)))) (sets buffer 3 d) ≡ over (replyBytes sum status d) buffer)
-stored-behind d [] h sum status = absurd (omega arith)
-stored-behind d (x ∷ []) h sum status = absurd (omega arith)
-stored-behind d (x ∷ y ∷ []) h sum status = absurd (omega arith)
-stored-behind d (x ∷ y ∷ z ∷ r) h sum status =
-    let rest : List ℕ = drop (3 + length d) (x ∷ y ∷ z ∷ r) in
-    let behind : drop (3 + length d) (x ∷ y ∷ z ∷ (d ++ rest)) ≡ rest = rw (add-comm 3 (length d), add-three) (drop-append-seam d (drop (length d) r)) in
-    rw (sets-eq d (x ∷ y ∷ z ∷ r) 3 h, take-append-seam d rest) (refl, over-behind sum status d (x ∷ y ∷ z ∷ (d ++ rest)) (x ∷ y ∷ z ∷ r) behind)
 
 -- The part behind the head was lent on and has come back with data d written over its start: d stands there, and what lies behind it is
 -- as it was. `putMid 3 k buffer part` is the whole buffer then.

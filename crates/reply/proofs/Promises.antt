@@ -81,5 +81,13 @@ module _ (r : List ℕ) (sum : Bool) where
       let t = taken-exactly .0 e in
       rw (sym number-first ∙ e) (refl, refl, omega (arith, t .counted))
 
+  -- Of what is no reply the other values are 0.
+  alone : (replyReading r sum .number ≡ 0 → ⊥)
+      → (replyReading r sum .status ≡ 0) × (replyReading r sum .place ≡ 0) × (replyReading r sum .size ≡ 0)
+  unfolding replyReading
+  alone h =
+      let some : first (replyRefusals r sum) ≡ 0 → ⊥ = λ z. h (number-first ∙ z) in
+      rw (ne-eqb _ _ some) (refl, refl, refl)
+
 pub reply-promised : (r : List ℕ) (sum : Bool) {a : ReplyAnswer} → a ≡ replyReading r sum → ReplyRead r sum a
-reply-promised r sum e = rw e (record { outcome = refl; exactly = taken-exactly r sum; numbered = numbered r sum; content = found r sum })
+reply-promised r sum e = rw e (record { outcome = refl; exactly = taken-exactly r sum; numbered = numbered r sum; content = found r sum; nothing-else = alone r sum })

@@ -83,3 +83,5 @@ pub record ReplyRead (r : List ℕ) (sum : Bool) (a : ReplyAnswer) : Type 0 wher
   pub numbered : ReplyNumber r sum (a .number)
   -- The status and the data, behind the three-byte head.
   pub content : a .number ≡ 0 → (a .status ≡ byteAt r 0) × (a .place ≡ 3) × (a .size ≡ wordAt r 1)
+  -- What is no reply has nothing but the number of why.
+  pub nothing-else : (a .number ≡ 0 → ⊥) → (a .status ≡ 0) × (a .place ≡ 0) × (a .size ≡ 0)

@@ -5,19 +5,22 @@ use mathlib.Core.Bool.{Bool, cond}
 use mathlib.Core.List.{List}
 use lib.Dec.{eqb}
 use Rattle.wire.specs.Tables.{words}
+use Rattle.opcode.specs.Options.{optionsIn}
+use Rattle.opcode.specs.Faults.{FirstFault}
+use Rattle.packet.specs.Frame.{opcodeOf, optionsOf, dataOf}
 use Rattle.packet.specs.Reading.{Answer, reading}
 use Rattle.packet.specs.Making.{Made, made}
 use Rattle.packet.specs.Promises.{PacketRead, PacketMade}
 use Rattle.reply.specs.Reading.{ReplyAnswer, replyReading, ReplyRead}
-use Rattle.controller8.specs.Bytes.{Lent, LentOut, lentOut, stepBytes, HandledBytes}
+use Rattle.controller8.specs.Bytes.{Lent, LentOut, lentOut, stepBytes, BytesLent, HandledBytes}
 use Rattle.compress.specs.Compressing.{CompressOut, compressOut, compressingBytes, CompressedBytes}
 use Rattle.split.specs.Splitting.{SplitOut, splitOut, splitting, SplitBytes}
 use Rattle.upload.specs.Planning.{Sheets, PlanOut, planOut, plannedBytes, PlannedBytes}
 
 -- ---- Reading, rule 2.6.
 
--- The refusal in bits 0-7; opcode in 8-15, header bits 3-7 in place in 16-23, offset of the data in 24-31, data length from 32 on. An answer
--- that is a refusal has 0 in all of these, but from 32 on the place of its fault, which is 0 too unless it is 10.
+-- The refusal in bits 0-7; opcode in 8-15, header bits 3-7 in place in 16-23, offset of the data in 24-31, data length in 32-47. An answer
+-- that is a refusal has 0 in all of these, but in 32-47 the place of its fault, which is 0 too unless it is 10.
 abbrev pub packedReading : Answer → ℕ
 packedReading a =
     a .number + 256 * a .opcode + 65536 * a .options + 16777216 * a .place + 4294967296 * (a .size + a .fault)
@@ -27,40 +30,44 @@ abbrev pub readingIn : ℕ → Answer
 readingIn n =
     record {
       number = n % 256;
-      fault = cond (eqb (n % 256) 0) 0 (n / 4294967296);
+      fault = cond (eqb (n % 256) 0) 0 (n / 4294967296 % 65536);
       opcode = n / 256 % 256;
       options = n / 65536 % 256;
       place = n / 16777216 % 256;
-      size = cond (eqb (n % 256) 0) (n / 4294967296) 0;
+      size = cond (eqb (n % 256) 0) (n / 4294967296 % 65536) 0;
     }
 
 pub record PackedRead (p : List ℕ) (answer : ℕ) : Type 0 where
   pub packed : answer ≡ packedReading (reading p)
   pub promise : PacketRead p (readingIn answer)
+  -- Rule 4.6, of the number itself: with 10 in bits 0-7 the place of the first fault is in bits 32-47.
+  pub ten : answer % 256 ≡ 10 → FirstFault (opcodeOf p) (optionsOf p) (dataOf p) (answer / 4294967296 % 65536)
 
 -- ---- Making, rule 4.4.
 
--- Status in bits 0-7, the packet's length in 8-31, the place of the fault from 32 on.
+-- Status in bits 0-7, the packet's length in 8-23, the place of the fault in 32-47.
 abbrev pub packedMade : Made → ℕ
 packedMade m = m .status + 256 * m .size + 4294967296 * m .fault
 
 abbrev pub madeIn : ℕ → List ℕ → Made
-madeIn n left = record { status = n % 256; fault = n / 4294967296; size = n / 256 % 16777216; buffer = left }
+madeIn n left = record { status = n % 256; fault = n / 4294967296 % 65536; size = n / 256 % 65536; buffer = left }
 
 pub record PackedMake (op options : ℕ) (d buffer : List ℕ) (answer : ℕ) (left : List ℕ) : Type 0 where
   pub packed : answer ≡ packedMade (made op options d buffer)
   pub promise : PacketMade op options d buffer (madeIn answer left)
+  -- Rule 4.6, of the number itself.
+  pub ten : answer % 256 ≡ 10 → FirstFault op (optionsIn options) d (answer / 4294967296 % 65536)
 
 -- ---- Reading a reply, rule 3.5.
 
--- The refusal in bits 0-7, the reply's status in 8-15, its data length from 16 on.
+-- The refusal in bits 0-7, the reply's status in 8-15, its data length in 16-31.
 abbrev pub packedReply : ReplyAnswer → ℕ
 packedReply r = r .number + 256 * r .status + 65536 * r .size
 
 -- The data of a reply is at offset 3.
 abbrev pub replyIn : ℕ → ReplyAnswer
 replyIn n =
-    record { number = n % 256; status = n / 256 % 256; place = cond (eqb (n % 256) 0) 3 0; size = n / 65536 }
+    record { number = n % 256; status = n / 256 % 256; place = cond (eqb (n % 256) 0) 3 0; size = n / 65536 % 65536 }
 
 pub record PackedReplyRead (r : List ℕ) (sum : Bool) (answer : ℕ) : Type 0 where
   pub packed : answer ≡ packedReply (replyReading r sum)
@@ -68,12 +75,12 @@ pub record PackedReplyRead (r : List ℕ) (sum : Bool) (answer : ℕ) : Type 0 w
 
 -- ---- One packet on a state, rule 3.4.
 
--- Status in bits 0-7, the reply's length in 8-31, the place of the fault from 32 on.
+-- Status in bits 0-7, the reply's length in 8-23, the place of the fault in 32-47.
 abbrev pub packedOut : LentOut → ℕ
 packedOut o = o .status + 256 * o .size + 4294967296 * o .fault
 
 abbrev pub outIn : ℕ → Lent → List ℕ → LentOut
-outIn n left reply = lentOut (n % 256) (n / 4294967296) (n / 256 % 16777216) left reply
+outIn n left reply = lentOut (n % 256) (n / 4294967296 % 65536) (n / 256 % 65536) left reply
 
 -- The answer and every lent list; and all that is demanded of a packet, of the status, the place and the reply's length that C reads in the answer.
 pub record PackedHandled (p : List ℕ) (l : Lent) (reply : List ℕ) (answer : ℕ) (left : Lent) (after : List ℕ) : Type 0 where
@@ -81,6 +88,8 @@ pub record PackedHandled (p : List ℕ) (l : Lent) (reply : List ℕ) (answer : 
   -- Rule 4.2: a status other than 0 leaves block, staged, live and gains, byte for byte, as they were.
   pub unchanged : (answer % 256 ≡ 0 → ⊥) → left ≡ l
   pub promise : HandledBytes p l reply (outIn answer left after)
+  -- Rule 4.6, of the number itself.
+  pub ten : answer % 256 ≡ 10 → FirstFault (opcodeOf p) (optionsOf p) (dataOf p) (answer / 4294967296 % 65536)
 
 -- ---- Compressing gains, rule 10.2.
 

@@ -61,12 +61,20 @@ fn main() -> ExitCode {
     let uart = [0x54, 0x6D, 11, 0, 1, 1, 8, 3, 0, 0, 0, 2, 2, 0, 2];
     let mut lists = vec![0x54, 0x35, 189, 0, 1];
     lists.extend((0..62).chain(0..31).chain([0]).flat_map(u16::to_le_bytes));
+    // As many gains as a packet takes; and the same with the last one too large.
+    let words = [&[0, 1, 251, 0, 0, 0][..], &[0, 16].repeat(251)].concat();
+    let gains = packet_of(0x14, Opcode::Gains, &words);
+    let mut large = gains.clone();
+    large[0] = 0x54;
+    large[LONGEST - 1] = 32;
     let cases = [
         ("mixed session", mixed.iter().map(|packet| Some(&packet[..])).collect()),
         ("11h write", vec![Some(&[0x04, 0x11, 0x01][..])]),
         ("34h write of 126 points", vec![Some(&map[..])]),
         ("512 bytes, checksum", vec![Some(&longest[..])]),
         ("512-byte reply, checksum", vec![Some(&asks[..])]),
+        ("2Bh write of 251 gains", vec![Some(&gains[..])]),
+        ("2Bh refused, reply", vec![Some(&large[..])]),
         ("6Dh refused, reply", vec![Some(&uart[..])]),
         ("35h refused, reply", vec![Some(&lists[..])]),
         ("36h apply", vec![Some(&[0x04, 0x36, 0x01][..])]),

@@ -1,5 +1,5 @@
-//! Groups on the place that refusal 10 names, in the front end's answer and reply. What is due stands
-//! with each input, besides what the twin says.
+//! Groups on the place that refusal 10 names, in the front end's answer and reply. The library is held
+//! to the twin, and the twin's answer and the library's reply to what stands with each input.
 
 use twin::fields::checksum;
 use twin::front_end::Answer;

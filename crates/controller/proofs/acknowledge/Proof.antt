@@ -1,11 +1,11 @@
 -- Each return is by one of the tests on whether the packet is answered; the last seals a reply with its place, where it has one.
-use Prim.Native.Nat.{_≤_}
-use mathlib.Core.Path.{ap, _∙_}
+use Prim.Native.Nat.{_-_, _≤_}
+use mathlib.Core.Path.{_∙_}
 use native.Mathlib.Omega.{arith}
 use lib.ListN.{length}
-use lib.Seq.{length-sets}
-use Rattle.reply.proofs.Laws.{stored-behind}
-use Rattle.controller.specs.Step.{placeData}
+use lib.Dec.{eqb}
+use Rattle.opcode.specs.Options.{hasSum}
+use Rattle.reply.proofs.Laws.{lent-on}
 use Rattle.controller.proofs.Replies.{no-byte, not-asked, stopped-1, asked, unanswered, answered-status, place-few}
 use borrow.Author.Needs.{needs}
 use Rattle.controller.proofs.acknowledge.Statement.{statement}
@@ -29,18 +29,28 @@ returns-3 c =
     let args = c .before .before .before .before .before .before .args in
     unanswered (args .number) (args .fault) (args .packet .now) _ (stopped-1 (args .number) (args .packet .now) (c .if3 .taken))
 
+sub-put-place : tie.Need-sub-put-place
+sub-put-place c = search needs
+
+part-put-place-start : tie.Need-part-put-place-start
+part-put-place-start c = search needs
+
+part-put-place-end : tie.Need-part-put-place-end
+part-put-place-end c = search needs
+
 put-place-requires : tie.Need-put-place-requires
 put-place-requires c κs = search needs
 
--- What the place leaves of the buffer, and that it fits.
-placed : (c : tie.Start) → length (placeData (c .args .number) (c .args .fault)) ≤ 2
-placed c = place-few (c .args .number) (c .args .fault)
+-- A place has two bytes at most.
+placed : (c : tie.After-put-place) → c .put-place .result ≤ 2
+placed c =
+    let args = c .before .before .before .before .before .before .before .before .args in
+    rw (c .put-place .ensures .0) (place-few (args .number) (args .fault))
 
 seal-requires : tie.Need-seal-requires
 seal-requires c κs =
-    let at-start = c .before .before .before .before .before .before .before .before .before .before .before in
-    let put = c .before .before .before .put-place .ensures in
-    (at-start .pre .0, omega (arith, put .0, placed at-start), omega (arith, put .0, placed at-start, ap length (put .1), length-sets (at-start .args .reply .now) 3 (placeData (at-start .args .number) (at-start .args .fault)), at-start .pre .2))
+    let n = placed (c .before .before .before) in
+    omega (arith, n)
 
 same-length : tie.Need-same-length
 same-length c = search needs
@@ -56,11 +66,23 @@ returns-4 c =
     let same = answered-status (args .number) (args .fault) (args .packet .now)
     (asked (args .number) (args .packet .now) (at-byte .before .if1 .left) (λ e. at-test .before .if2 .left (omega arith)) (at-test .if3 .left)) in
     let put = at-place .put-place .ensures in
-    let behind = stored-behind (placeData (args .number) (args .fault)) (args .reply .now) (omega (arith, placed at-start, at-start .pre .2)) in
+    let lent = rw (← put .0) at
+    (lent-on _ (args .reply .now) (at-place .put-place .last .0) (length (args .reply .now) - 3) (omega (arith, placed at-place)) (omega arith) (put .1) (eqb (hasSum (at-byte .byte .result)) 1) (args .number)) in
     rw (same, ← at-byte .byte .ensures .0)
-    (at-seal .seal .ensures .0 ∙ rw (put .0, put .1) (behind _ _ .0), at-seal .seal .ensures .1 ∙ rw (put .0, put .1) (behind _ _ .1))
+    (at-seal .seal .ensures .0 ∙ lent .0, at-seal .seal .ensures .1 ∙ lent .1)
 
 pub acknowledge-spec : {M : Type 1} → statement M
 acknowledge-spec =
     tie.close
-    (tie.spec returns byte-requires returns-2 returns-3 put-place-requires seal-requires same-length returns-4)
+    (tie.spec
+    returns
+    byte-requires
+    returns-2
+    returns-3
+    sub-put-place
+    part-put-place-start
+    part-put-place-end
+    put-place-requires
+    seal-requires
+    same-length
+    returns-4)

@@ -9,14 +9,11 @@ enum-known-frame c = search needs
 enum-told : tie.Need-enum-told
 enum-told c = search needs
 
-by-requires : tie.Need-by-requires
-by-requires c κs = search needs
-
 returns : tie.Need-returns
 returns c = rw (c .before .frame .given .1)
 
 returns-2 : tie.Need-returns-2
-returns-2 c = rw (c .by .ensures .0, c .by .ensures .1, c .before .enum-told .given .1)
+returns-2 c = rw (c .enum-told .given .1)
 
 pub refused-spec : {M : Type 1} → statement M
-refused-spec = tie.close (tie.spec enum-known-frame enum-told by-requires returns returns-2)
+refused-spec = tie.close (tie.spec enum-known-frame enum-told returns returns-2)

@@ -1,6 +1,6 @@
 -- Each test is the definition's, in its order.
 use Prim.Native.Nat.{ℕ}
-use mathlib.Core.Path.{_≡_, sym, _∙_}
+use mathlib.Core.Path.{_≡_, refl, sym, _∙_}
 use mathlib.Core.List.{List}
 use native.Mathlib.Omega.{arith}
 use borrow.Author.Tests.{lt-ltb, le-ltb, ne-eqb}
@@ -78,7 +78,6 @@ judge-spec =
     (λ c.
     let args = c .before .before .before .before .before .before .before .before .before .before .before .before .before .args in
     told (args .opcode) (args .options) 11 (args .«data» .now) (omega arith) (c .by4 .ensures) (sym (past-10 (c .before .before .before) ∙ simp (← c .before .before .named-only .ensures, c .before .if5 .taken))))
-    (λ c κs. tt)
     (λ c.
-    let args = c .before .before .before .before .before .before .before .before .before .before .before .before .before .args in
-    told (args .opcode) (args .options) 0 (args .«data» .now) (omega arith) (c .by5 .ensures) (sym (past-10 (c .before .before .before) ∙ simp (← c .before .before .named-only .ensures, c .before .if5 .left)))))
+    let args = c .before .before .before .before .before .before .before .before .before .before .before .before .args in
+    told (args .opcode) (args .options) 0 (args .«data» .now) (omega arith) (refl, refl) (sym (past-10 (c .before .before) ∙ simp (← c .before .named-only .ensures, c .if5 .left)))))
