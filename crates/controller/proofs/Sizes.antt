@@ -42,7 +42,7 @@ abbrev Nowhere : ℕ → Type 0
 Nowhere op = min (commandOf op .mark - fixed) (placeIn op places .first + placeIn op places .step + commandOf op .back) ≡ 0
 
 module _ (op o : ℕ) (d : List ℕ) (e : first (judgement op o d) ≡ 0) where
-  known : unknown op ≡ false
+  pub known : unknown op ≡ false
   unfolding judgement
   known = first-silent (judgement op o d) (omega arith) e .0
 

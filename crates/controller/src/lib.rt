@@ -217,7 +217,8 @@ pub fn refuse(decision: Reading, packet: &[u8], reply: &mut [u8]) -> Outcome
     Outcome { why, size }
 }
 
-// The block after an accepted write: of 2Bh and 34h, which store in tables, it is as it was.
+// The block after an accepted write: of 2Bh and 34h, which store in tables, it is as it was. What any other stores ends its data, behind the pin or port. Sizes come
+// by `size_of`, since the table of opcodes would be built on the stack once more.
 pub fn store(block: &mut [u8], opcode: usize, options: usize, data: &[u8])
     requires { ⌜ (length (now block) ≡ blockSize) × (isRead options ≡ 0)
         × (first (judgement opcode options (now «data»)) ≡ 0) ⌝ }
@@ -230,13 +231,13 @@ pub fn store(block: &mut [u8], opcode: usize, options: usize, data: &[u8])
         0x36 => store_apply(block, data),
         0x38 => wire::copy(block, SMOOTH_TABLE, data, 0, data.len()),
         _ => {
-            let row = opcode::row_at(opcode);
+            let size = settings::size_of(opcode);
             wire::copy(
                 block,
                 settings::place_of(opcode, data),
                 data,
-                row.read,
-                row.back,
+                data.len() - size,
+                size,
             );
         }
     }
@@ -299,10 +300,12 @@ pub fn fetch(out: &mut [u8], opcode: usize, options: usize, data: &[u8], block: 
             SMOOTH_TABLE,
             2 + 4 * (wire::byte(block, SMOOTH_TABLE) * wire::byte(block, SMOOTH_ROWS)),
         ),
-        _ => {
-            let row = opcode::row_at(opcode);
-            fetch_part(out, block, settings::place_of(opcode, data), row.back)
-        }
+        _ => fetch_part(
+            out,
+            block,
+            settings::place_of(opcode, data),
+            settings::size_of(opcode),
+        ),
     }
 }
 

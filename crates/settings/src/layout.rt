@@ -9,6 +9,8 @@ pub const LATENCY: usize = 1;
 
 pub const LOOK: usize = 2;
 
+pub const LOOK_SIZE: usize = 2;
+
 pub const CURTAIN: usize = 4;
 
 pub const SPLASH: usize = 5;

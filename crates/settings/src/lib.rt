@@ -19,7 +19,7 @@ ghost use Rattle.settings.specs.Allowed.{SettingsAllowed};
 ghost use Rattle.settings.specs.Ranges.{right, behindPort, forEach, pictureFields, deviceFields};
 ghost use Rattle.settings.specs.Ranges.{rising, shapeRight, InRange};
 ghost use Rattle.settings.specs.Reset.{count-up, resetShape, resetBlock};
-ghost use Rattle.settings.specs.Internal.{spreadOver};
+ghost use Rattle.settings.specs.Internal.{spreadOver, KeptSize};
 
 // Whether every stored setting, staged and live, lies in its range. The bytes past them are not judged. Every packet asks this, so
 // the parts are judged one after another without an early return, each joined to what those before it came to.
@@ -239,6 +239,23 @@ pub fn place_of(opcode: usize, data: &[u8]) -> usize
         0x6C => LOCK,
         0x6D => UART_PORTS + UART_SIZE * port,
         _ => DISPLAY,
+    }
+}
+
+// How many bytes a command of a fixed size has at its place; 0 for those whose size varies. Of an opcode that is not carried it says nothing.
+pub fn size_of(opcode: usize) -> usize
+    ensures { λ r. ⌜ KeptSize opcode r ⌝ }
+{
+    match opcode {
+        0x13 => LOOK_SIZE,
+        0x2B => 0,
+        0x34 => 0,
+        0x35 => 0,
+        0x38 => 0,
+        0x60 => PIN_SIZE,
+        0x65 => PWM_SIZE,
+        0x6D => UART_SIZE,
+        _ => 1,
     }
 }
 

@@ -1,13 +1,13 @@
 -- Each arm is a part of the block. The smooth table's counts are at most 5, and any other command's settings lie in the block.
 use Prim.Native.Nat.{ℕ, _*_, _≤_, _<_}
-use mathlib.Core.Path.{ap}
+use mathlib.Core.Path.{_≡_}
 use native.Mathlib.Omega.{arith}
 use borrow.Author.Tests.{ne-eqb}
 use lib.ListN.{getD}
-use Rattle.opcode.specs.declared.Row.{Row}
+use Rattle.opcode.specs.Commands.{commandOf}
 use Rattle.controller.specs.Commands.{blockBack, readSmooth}
 use Rattle.controller.proofs.Bounds.{counts}
-use Rattle.controller.proofs.Sizes.{back-small, place-within}
+use Rattle.controller.proofs.Sizes.{known, place-within}
 use borrow.Author.Needs.{needs}
 use Rattle.controller.proofs.fetch.Statement.{statement}
 use Rattle.controller.proofs.fetch.Tie as tie
@@ -38,21 +38,26 @@ add-fetch-part c = omega (arith, few c)
 fetch-part-requires : tie.Need-fetch-part-requires
 fetch-part-requires c κs = omega (arith, few c)
 
-row-at-requires : tie.Need-row-at-requires
-row-at-requires c κs = search needs
-
 place-of-requires : tie.Need-place-of-requires
 place-of-requires c κs = search needs
 
+size-of-requires : tie.Need-size-of-requires
+size-of-requires c κs = search needs
+
+-- It has the size that the list of commands gives it.
+sized : (c : tie.After-size-of) → c .size-of .result ≡ commandOf (c .before .before .before .before .before .before .before .args .opcode) .back
+sized c =
+    let at-start = c .before .before .before .before .before .before .before in
+    c .size-of .ensures .carried (known (at-start .args .opcode) (at-start .args .options) (at-start .args .«data» .now) (at-start .pre .4))
+
 fetch-part-requires-2 : tie.Need-fetch-part-requires-2
 fetch-part-requires-2 c κs =
-    let at-row = c .before .before in
-    let known = at-row .before .before .before in
-    let at-start = known .before .before in
+    let data-known = c .before .before .before .before .before in
+    let at-start = data-known .before .before in
     let args = at-start .args in
-    let bytes : (k : ℕ) → getD (args .«data» .now) k 0 < 256 = λ k. known .shared-slice-known .given k .fits in
+    let bytes : (k : ℕ) → getD (args .«data» .now) k 0 < 256 = λ k. data-known .shared-slice-known .given k .fits in
     let room = place-within (args .opcode) (args .options) (args .«data» .now) bytes (at-start .pre .4) in
-    omega (arith, room, back-small (args .opcode), ap (λ (r : Row). r .back) (at-row .row-at .ensures))
+    omega (arith, room, sized c, c .size-of .ensures .few)
 
 same-length : tie.Need-same-length
 same-length c = search needs
@@ -78,9 +83,9 @@ returns-3 : tie.Need-returns-3
 unfolding blockBack
 returns-3 c =
     let at-part = c .before .before in
-    let at-row = at-part .before .before .before in
-    let rest = at-row .before .match .rest in
-    rw (ne-eqb _ _ (rest .0 .1), ne-eqb _ _ (rest .1), ← at-part .before .place-of .ensures .0, ← ap (λ (r : Row). r .back) (at-row .row-at .ensures)) (at-part .fetch-part2 .ensures)
+    let at-size = at-part .before in
+    let rest = at-size .before .before .before .match .rest in
+    rw (ne-eqb _ _ (rest .0 .1), ne-eqb _ _ (rest .1), ← at-size .before .place-of .ensures .0, ← sized at-size) (at-part .fetch-part2 .ensures)
 
 pub fetch-spec : {M : Type 1} → statement M
 fetch-spec =
@@ -93,8 +98,8 @@ fetch-spec =
     mul-fetch-part-2
     add-fetch-part
     fetch-part-requires
-    row-at-requires
     place-of-requires
+    size-of-requires
     fetch-part-requires-2
     same-length
     returns

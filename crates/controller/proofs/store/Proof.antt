@@ -1,13 +1,15 @@
 -- Each arm is its command's definition; what any other command stores lies among the settings, and its data holds it.
-use Prim.Native.Nat.{ℕ, _<_}
-use mathlib.Core.Path.{ap}
+use Prim.Native.Nat.{ℕ, _+_, _-_, _≤_, _<_}
+use mathlib.Core.Path.{_≡_}
+use mathlib.Core.List.{List}
 use native.Mathlib.Omega.{arith}
 use borrow.Author.Tests.{ne-eqb}
-use lib.ListN.{getD}
-use Rattle.opcode.specs.declared.Row.{Row}
+use lib.ListN.{length, getD}
+use Rattle.opcode.specs.Commands.{commandOf}
+use Rattle.settings.specs.Layout.{placeOf, settingsEnd}
 use Rattle.controller.specs.Commands.{blockAfter, writeSmooth}
 use Rattle.controller.proofs.Bounds.{write-data}
-use Rattle.controller.proofs.Sizes.{shape-size, smooth-size, fixed-rest, place-within, write-whole}
+use Rattle.controller.proofs.Sizes.{shape-size, smooth-size, known, fixed-rest, place-within, write-whole}
 use borrow.Author.Needs.{needs}
 use Rattle.controller.proofs.store.Statement.{statement}
 use Rattle.controller.proofs.store.Tie as tie
@@ -30,28 +32,40 @@ copy-requires c κs =
     let small = smooth-size (rw (c .before .match .keys5) at (write-data (args .opcode) (args .options) (args .«data» .now) (pre .1) (pre .2))) in
     (omega arith, omega arith)
 
-row-at-requires : tie.Need-row-at-requires
-row-at-requires c κs = search needs
+size-of-requires : tie.Need-size-of-requires
+size-of-requires c κs = search needs
 
 place-of-requires : tie.Need-place-of-requires
 place-of-requires c κs = search needs
 
-copy-requires-2 : tie.Need-copy-requires-2
-copy-requires-2 c κs =
-    let at-row = c .before .before in
-    let rest = at-row .before .match .rest in
-    let known = at-row .before .before in
-    let at-start = known .before .before in
+-- The data of any other command ends in what it stores, which has its size.
+record Ends (op : ℕ) (d : List ℕ) (size : ℕ) : Type 0 where
+  sized : size ≡ commandOf op .back
+  behind : commandOf op .read + size ≡ length d
+  room : placeOf op d + size ≤ settingsEnd
+
+ends : (c : tie.After-size-of) → Ends (c .before .before .before .before .args .opcode) (c .before .before .before .before .args .«data» .now) (c .size-of .result)
+ends c =
+    let rest = c .before .match .rest in
+    let known-bytes = c .before .before in
+    let at-start = known-bytes .before .before in
     let args = at-start .args in
     let pre = at-start .pre in
-    let row = at-row .row-at in
-    let read = ap (λ (r : Row). r .read) (row .ensures) in
-    let back = ap (λ (r : Row). r .back) (row .ensures) in
-    let bytes : (k : ℕ) → getD (args .«data» .now) k 0 < 256 = λ k. known .shared-slice-known .given k .fits in
-    let room = place-within (args .opcode) (args .options) (args .«data» .now) bytes (pre .2) in
-    let mark = fixed-rest (args .opcode) (args .options) (args .«data» .now) (pre .2) (rest .0 .0 .0 .0 .1) (rest .0 .0 .0 .1) (rest .0 .0 .1) (rest .1) in
-    let whole = write-whole (args .opcode) (args .options) (args .«data» .now) bytes (pre .2) (pre .1) mark in
-    (omega (arith, room, back), omega (arith, whole, back, read))
+    let d = args .«data» .now in
+    let bytes : (k : ℕ) → getD d k 0 < 256 = λ k. known-bytes .shared-slice-known .given k .fits in
+    let mark = fixed-rest (args .opcode) (args .options) d (pre .2) (rest .0 .0 .0 .0 .1) (rest .0 .0 .0 .1) (rest .0 .0 .1) (rest .1) in
+    let sized = c .size-of .ensures .carried (known (args .opcode) (args .options) d (pre .2)) in
+    record {
+      sized = sized;
+      behind = rw sized (write-whole (args .opcode) (args .options) d bytes (pre .2) (pre .1) mark);
+      room = rw sized (place-within (args .opcode) (args .options) d bytes (pre .2));
+    }
+
+sub-copy : tie.Need-sub-copy
+sub-copy c = omega (arith, ends (c .before .before) .behind)
+
+copy-requires-2 : tie.Need-copy-requires-2
+copy-requires-2 c κs = let e = ends (c .before .before) in (omega (arith, e .room), omega (arith, e .behind))
 
 returns : tie.Need-returns
 unfolding blockAfter
@@ -89,9 +103,11 @@ returns-6 : tie.Need-returns-6
 unfolding blockAfter
 returns-6 c =
     let at-copy = c .before .before in
-    let at-row = at-copy .before .before .before in
-    let rest = at-row .before .match .rest in
-    let row = at-row .row-at .ensures in
+    let at-size = at-copy .before .before .before in
+    let rest = at-size .before .match .rest in
+    let d = at-size .before .before .before .before .args .«data» .now in
+    let e = ends at-size in
+    let from : length d - at-size .size-of .result ≡ commandOf (at-size .before .before .before .before .args .opcode) .read = omega (arith, e .behind) in
     rw (
       ne-eqb _ _ (rest .0 .0 .0 .0 .1),
       ne-eqb _ _ (rest .0 .0 .0 .1),
@@ -99,8 +115,8 @@ returns-6 c =
       ne-eqb _ _ (rest .0 .1),
       ne-eqb _ _ (rest .1),
       ← at-copy .before .place-of .ensures .0,
-      ← ap (λ (r : Row). r .read) row,
-      ← ap (λ (r : Row). r .back) row,
+      ← from,
+      ← e .sized,
     ) (at-copy .copy2 .ensures)
 
 pub store-spec : {M : Type 1} → statement M
@@ -110,8 +126,9 @@ store-spec =
     store-shape-requires
     store-apply-requires
     copy-requires
-    row-at-requires
+    size-of-requires
     place-of-requires
+    sub-copy
     copy-requires-2
     returns
     returns-2
