@@ -1,0 +1,6 @@
+pub mod Bits
+pub mod Rows
+pub mod Walk
+pub mod Points
+pub mod Right
+pub mod Touched
