@@ -171,6 +171,22 @@ static void print_point(const char *words, const uint8_t *map, size_t index)
     printf("  %s point %zu is at %.1f, %.1f\n", words, index, x, y);
 }
 
+/* The rows that moved: those whose points the next apply changes, for a console to light. */
+static void print_rows(void)
+{
+    struct vermolgas_rows_result rows = vermolgas_device_rows(&device);
+
+    if (rows.marked == 0) {
+        printf("  rows moved: none\n\n");
+        return;
+    }
+    printf("  rows moved: %u, the lowest is %u:", rows.marked, rows.lowest);
+    for (size_t row = rows.lowest; row < VERMOLGAS_MOST_ROWS; row++)
+        if (vermolgas_row_marked(rows, row))
+            printf(" %zu", row);
+    printf("\n\n");
+}
+
 static void warp(void)
 {
     command("35h: control points in 3 columns and 2 rows", vermolgas_make_shape(3, 2, WRITE));
@@ -180,11 +196,13 @@ static void warp(void)
                                          POINT(1919, 1079)),
                                   WRITE));
     command("34h: read points 4 and 5 back", vermolgas_make_read_points(4, 2, READ));
+    print_rows();
     command("36h: apply the map", vermolgas_make_apply(true, WRITE));
+    print_rows();
     command("34h: move point 5, staged for now", vermolgas_make_points(5, POINTS(POINT(1900, 1060)), WRITE));
     print_point("staged", device.staged, 5);
     print_point("live", device.live, 5);
-    printf("\n");
+    print_rows();
 }
 
 /* Plans the upload of a full map in which some points of the staged one have moved. */
@@ -246,6 +264,7 @@ static int run_session(void)
     command("35h: control points in 62 columns and 32 rows", vermolgas_make_shape(62, 32, WRITE));
     if (send_map() != EXIT_SUCCESS)
         return EXIT_FAILURE;
+    print_rows();
     command("34h: read points 100 to 102 back", vermolgas_make_read_points(100, 3, READ));
     command("34h: read point 1983 back", vermolgas_make_read_points(1983, 1, READ));
     command("35h: control points in 3 columns and 2 rows again", vermolgas_make_shape(3, 2, WRITE));

@@ -29,7 +29,7 @@
 
 /* The version, and as one number to compare with: 1.2.3 is 10203. */
 #define VERMOLGAS_VERSION_MAJOR 0
-#define VERMOLGAS_VERSION_MINOR 5
+#define VERMOLGAS_VERSION_MINOR 6
 #define VERMOLGAS_VERSION_PATCH 0
 #define VERMOLGAS_VERSION                                                                                             \
     (10000 * VERMOLGAS_VERSION_MAJOR + 100 * VERMOLGAS_VERSION_MINOR + VERMOLGAS_VERSION_PATCH)
@@ -278,7 +278,8 @@ VERMOLGAS_ENUM(vermolgas_uart_source) { VERMOLGAS_UART_SOURCE_RXD = 0, VERMOLGAS
 
 /* Puts a controller into its state after reset: zeros everywhere, but each gain 4096 (1.0), the warp map's shape
  * 62 x 32 and mode 0 on both sides, staged and live, control point lists counting from 0, the smooth table's shape
- * 3 x 3, and PWM frequencies 20. Every byte of the four buffers is written, whatever it was.
+ * 3 x 3, and PWM frequencies 20. So no row is marked (vermolgas_rows). Every byte of the four buffers is written,
+ * whatever it was.
  *
  * The lengths are VERMOLGAS_BLOCK_BYTES, VERMOLGAS_MAP_BYTES twice and VERMOLGAS_GAINS_BYTES, exactly. Any other is
  * refusal 1, and no byte is changed.
@@ -293,8 +294,10 @@ uint64_t vermolgas_reset(uint8_t *block, size_t block_length, uint8_t *staged, s
  * or a stored setting out of its range, staged or live. What the tables hold is not judged. Then come the refusals of
  * vermolgas_read, 2 to 11, and then 12. The number is the first that applies.
  *
- * An accepted write changes what its command names and nothing else. An accepted read and every refusal change no
- * byte of the block and of the tables. Block bytes without a meaning, 865 to 1023, stay as they are.
+ * An accepted write changes what its command names and nothing else; writes of 34h, of 35h and of 36h with 1 keep up
+ * the row mark in block bytes 865 to 868, too (vermolgas_rows). An accepted read and every refusal change no byte of
+ * the block and of the tables. The row mark may be any four bytes, and no reply depends on it. Block bytes without a
+ * meaning, 869 to 1023, stay as they are.
  *
  * There is a reply, at the start of the reply buffer, exactly if the packet is not empty, bit 6 or bit 7 of its first
  * byte is set, and the refusal is not 1. It is the status, the length of the data in two bytes, the data, and a
@@ -309,6 +312,33 @@ uint64_t vermolgas_packet(const uint8_t *packet, size_t packet_length, uint8_t *
                           size_t gains_length, uint8_t *reply, size_t reply_length);
 
 #define VERMOLGAS_PACKET_REPLY_LENGTH(answer) VERMOLGAS_FIELD(size_t, answer, 8, 0xFFFFu)
+
+/* Counts the rows that moved: how many are marked in a block, and which is the lowest of them.
+ *
+ * The block has VERMOLGAS_BLOCK_BYTES, exactly, else refusal 1; nothing else of it is judged, and no byte is changed.
+ *
+ * The mark has a bit for each row: that of row r is bit r % 8 of block byte VERMOLGAS_MARK_OFFSET + r / 8. Point i lies
+ * in row i / columns, by the shape that is staged. In a mark that is right the bit of a row is set if an apply would
+ * give any of the row's live points another x or y, and else it is not set, nor is any past the last row.
+ * vermolgas_packet keeps the mark up: a write of points (34h) works out the rows that they lie in, one of the shape
+ * (35h) all rows, and an apply (36h with 1) clears it. So once vermolgas_reset has been called the mark is right for as
+ * long as nothing but vermolgas_packet writes into the block and the maps. A host that writes there by itself may make
+ * it wrong; the next write of the shape, or the next apply, makes it right. The answer is of the mark as it lies there.
+ *
+ * No marked row does not mean that an apply changes nothing: the shape, its mode, its lists, the points past the shape
+ * and enable have no bit.
+ */
+VERMOLGAS_NODISCARD
+uint64_t vermolgas_rows(const uint8_t *block, size_t block_length);
+
+#define VERMOLGAS_MARK_OFFSET 865 /* in the block */
+#define VERMOLGAS_MARK_BYTES  4
+#define VERMOLGAS_MOST_ROWS   32 /* a bit for each */
+#define VERMOLGAS_NO_ROW      32 /* in the place of the lowest marked row, if none is marked */
+
+/* How many rows are marked, 0 to 32, and the lowest of them, or VERMOLGAS_NO_ROW. */
+#define VERMOLGAS_ROWS_MARKED(answer) VERMOLGAS_FIELD(unsigned, answer, 8, 0xFFu)
+#define VERMOLGAS_ROWS_LOWEST(answer) VERMOLGAS_FIELD(unsigned, answer, 16, 0xFFu)
 
 /* Reads one packet, the whole slice given, apart from any settings. Refusals 2 to 11.
  *

@@ -204,6 +204,39 @@ VERMOLGAS_INLINE_ struct vermolgas_result vermolgas_device_send(struct vermolgas
     return result;
 }
 
+/* The rows that moved: those of the staged shape with a point that is another one in the live map. */
+struct vermolgas_rows_result {
+    unsigned status; /* 0; 1 if there is no device */
+    unsigned marked; /* how many there are */
+    unsigned lowest; /* the first of them, counted from 0; VERMOLGAS_NO_ROW if there is none */
+    uint32_t mark;   /* a bit for each row, bit 0 for row 0; see vermolgas_row_marked */
+};
+
+/* The rows whose points an apply would change, as vermolgas_rows tells them: they are right if the device was reset and
+ * changed by nothing but packets since. Status 0; 1 for NULL, and then there is no row. */
+VERMOLGAS_INLINE_ struct vermolgas_rows_result vermolgas_device_rows(const struct vermolgas_device *device)
+{
+    struct vermolgas_rows_result result = {VERMOLGAS_REFUSED_LENT, 0, VERMOLGAS_NO_ROW, 0};
+    uint64_t answer;
+    size_t i;
+
+    if (device == NULL)
+        return result;
+    answer = vermolgas_rows(device->block, sizeof device->block);
+    result.status = VERMOLGAS_STATUS(answer);
+    result.marked = VERMOLGAS_ROWS_MARKED(answer);
+    result.lowest = VERMOLGAS_ROWS_LOWEST(answer);
+    for (i = 0; i < VERMOLGAS_MARK_BYTES; i++)
+        result.mark |= VERMOLGAS_CAST(uint32_t, device->block[VERMOLGAS_MARK_OFFSET + i]) << (8 * i);
+    return result;
+}
+
+/* Whether this row is among them, for any number. */
+VERMOLGAS_INLINE_ bool vermolgas_row_marked(struct vermolgas_rows_result rows, size_t row)
+{
+    return row < VERMOLGAS_MOST_ROWS && (rows.mark >> row & 1) != 0;
+}
+
 /* A packet to be sent. One that was not made has no bytes, and is refused with 2 if it is sent all the same. */
 struct vermolgas_command {
     unsigned status; /* 0, or why it was not made */

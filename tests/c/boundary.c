@@ -760,6 +760,43 @@ static void refuse_splitting(void)
     give_back(&batch);
 }
 
+/* Blocks of every length up to twice the right one, of any bytes. */
+static void count_rows(void)
+{
+    CHECK(vermolgas_rows(NULL, 0) == VERMOLGAS_REFUSED_LENT);
+    for (size_t length = 0; length <= 2 * VERMOLGAS_BLOCK_BYTES; length++) {
+        struct buffer block = pattern(length);
+        uint64_t answer = vermolgas_rows(block.bytes, block.length);
+        if (length == VERMOLGAS_BLOCK_BYTES)
+            CHECK(VERMOLGAS_STATUS(answer) == VERMOLGAS_ACCEPTED && VERMOLGAS_ROWS_MARKED(answer) > 0);
+        else
+            CHECK(answer == VERMOLGAS_REFUSED_LENT);
+        CHECK(unchanged(&block));
+        give_back(&block);
+    }
+}
+
+/* Points at both ends of both maps: a row is compared up to the map's last byte, and no further. */
+static void mark_rows(void)
+{
+    static const uint8_t first[] = {0, 0, 1, 0, 0, 0}, last[] = {0xBF, 0x07, 0, 0, 0, 1};
+    struct buffer parts[PARTS], points[] = {make(0x34, VERMOLGAS_OPTION_LENGTH, first, sizeof first),
+                                            make(0x34, VERMOLGAS_OPTION_LENGTH, last, sizeof last)};
+    struct buffer shape = lists();
+    start(parts);
+    for (size_t i = 0; i < 2; i++)
+        CHECK(packet(&points[i], parts) == VERMOLGAS_ACCEPTED);
+    CHECK(vermolgas_rows(parts[BLOCK].bytes, parts[BLOCK].length) == (UINT64_C(2) << 8));
+    CHECK(packet(&shape, parts) == VERMOLGAS_ACCEPTED);
+    CHECK(vermolgas_rows(parts[BLOCK].bytes, parts[BLOCK].length) == (UINT64_C(2) << 8));
+    CHECK(parts[BLOCK].bytes[VERMOLGAS_MARK_OFFSET] == 1);
+    CHECK(parts[BLOCK].bytes[VERMOLGAS_MARK_OFFSET + VERMOLGAS_MARK_BYTES - 1] == 0x80);
+    end(parts);
+    give_back(&points[0]);
+    give_back(&points[1]);
+    give_back(&shape);
+}
+
 static const struct group groups[] = {
     {"right buffers", right_buffers},       {"wrong buffers", wrong_buffers},    {"cut packets", cut_packets},
     {"faults at the end", faults_at_end},
@@ -767,6 +804,7 @@ static const struct group groups[] = {
     {"longer rooms", plan_in_longer_rooms}, {"short rooms", refuse_short_rooms}, {"plans refused", refuse_plans},
     {"blends", blends},                     {"compressing refused", refuse_compressing},
     {"splitting refused", refuse_splitting},
+    {"rows counted", count_rows},           {"rows marked", mark_rows},
 };
 
 int main(void)

@@ -516,6 +516,77 @@ static void a_session(void)
     CHECK(send(&command).status == VERMOLGAS_REFUSED_TOO_SHORT);
 }
 
+/* Whether these are the rows that moved: as many as this, from the lowest on, and of each of them a bit. */
+static bool rows_are(unsigned marked, unsigned lowest, uint32_t mark)
+{
+    struct vermolgas_rows_result rows = vermolgas_device_rows(&device);
+    size_t row;
+
+    for (row = 0; row < VERMOLGAS_MOST_ROWS; row++)
+        if (vermolgas_row_marked(rows, row) != ((mark >> row & 1) != 0))
+            return false;
+    return rows.status == VERMOLGAS_ACCEPTED && rows.marked == marked && rows.lowest == lowest && rows.mark == mark;
+}
+
+/* Makes and sends a write of one point, a shape, an apply. */
+static bool moves(size_t index, unsigned x)
+{
+    struct vermolgas_point point = point_at(x, 7);
+    struct vermolgas_command command = vermolgas_make_points(index, &point, 1, 0);
+    return send(&command).status == VERMOLGAS_ACCEPTED;
+}
+
+static bool shapes(unsigned columns, unsigned rows)
+{
+    struct vermolgas_command command = vermolgas_make_shape(columns, rows, 0);
+    return send(&command).status == VERMOLGAS_ACCEPTED;
+}
+
+static bool applies(bool enable)
+{
+    struct vermolgas_command command = vermolgas_make_apply(enable, 0);
+    return send(&command).status == VERMOLGAS_ACCEPTED;
+}
+
+/* Rows as packets move them, and as they come back. */
+static void rows_that_moved(void)
+{
+    start();
+    CHECK(rows_are(0, VERMOLGAS_NO_ROW, 0));
+    CHECK(moves(1983, 1) && rows_are(1, 31, 0x80000000));
+    CHECK(moves(62, 1) && moves(123, 1) && rows_are(2, 1, 0x80000002)); /* the first and the last of row 1 */
+    CHECK(moves(124, 1) && moves(61, 1) && rows_are(4, 0, 0x80000007));
+    CHECK(applies(false) && rows_are(4, 0, 0x80000007));
+    CHECK(shapes(31, 4) && rows_are(3, 1, 0xE)); /* points 61, 62 and 123 */
+    CHECK(shapes(62, 32) && rows_are(4, 0, 0x80000007));
+    CHECK(applies(true) && rows_are(0, VERMOLGAS_NO_ROW, 0));
+    CHECK(moves(62, 2) && moves(63, 2) && rows_are(1, 1, 2));
+    CHECK(moves(62, 1) && rows_are(1, 1, 2)); /* as it is live; point 63 isn't */
+    keep();
+    CHECK(!moves(1984, 1) && rows_are(1, 1, 2) && kept());
+}
+
+/* Every row, and numbers that are none's; no device has no row. */
+static void single_rows(void)
+{
+    struct vermolgas_rows_result rows;
+    unsigned row;
+
+    for (row = 0; row < VERMOLGAS_MOST_ROWS; row++) {
+        start();
+        CHECK(moves(62 * row + row, 1) && rows_are(1, row, VERMOLGAS_CAST(uint32_t, 1) << row));
+    }
+    memset(&device, 0xFF, sizeof device);
+    keep();
+    CHECK(rows_are(32, 0, UINT32_MAX) && kept());
+    rows = vermolgas_device_rows(&device);
+    CHECK(vermolgas_row_marked(rows, 31) && !vermolgas_row_marked(rows, 32) && !vermolgas_row_marked(rows, 64));
+    CHECK(!vermolgas_row_marked(rows, SIZE_MAX));
+    rows = vermolgas_device_rows(NULL);
+    CHECK(rows.status == VERMOLGAS_REFUSED_LENT && rows.marked == 0 && rows.lowest == VERMOLGAS_NO_ROW);
+    CHECK(rows.mark == 0 && !vermolgas_row_marked(rows, 0));
+}
+
 /* A map in which every third point moves, and the last one. */
 static void plan_a_map(void)
 {
@@ -1011,7 +1082,7 @@ static void version(void)
     CHECK(VERMOLGAS_VERSION ==
           10000 * VERMOLGAS_VERSION_MAJOR + 100 * VERMOLGAS_VERSION_MINOR + VERMOLGAS_VERSION_PATCH);
     CHECK(VERMOLGAS_VERSION > 0 && VERMOLGAS_VERSION_MINOR < 100 && VERMOLGAS_VERSION_PATCH < 100);
-    CHECK(VERMOLGAS_VERSION >= 500); /* refusals by 10 have places from here on */
+    CHECK(VERMOLGAS_VERSION >= 600); /* refusals by 10 have places from 0.5 on, rows are marked from 0.6 on */
 }
 
 static const struct group groups[] = {
@@ -1027,6 +1098,8 @@ static const struct group groups[] = {
     {"first faults", first_faults},
     {"tables refused", tables_refused},
     {"a session", a_session},
+    {"rows that moved", rows_that_moved},
+    {"single rows", single_rows},
     {"uploads", uploads},
     {"checked uploads", checked_uploads},
     {"untouched walks", untouched_walks},

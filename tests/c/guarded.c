@@ -319,6 +319,10 @@ static void try_packet(bool *accepted)
     lend_pattern(5, length_like(VERMOLGAS_REPLY_BYTES));
     if (one_in(64) && buffers[1].length > 0) /* a setting, perhaps out of its range */
         buffers[1].before[0] = buffers[1].bytes[0] = (uint8_t)below(0);
+    if (one_in(4) && buffers[1].length == sizeof block) { /* some rows' marks, perhaps wrong ones */
+        size_t place = VERMOLGAS_MARK_OFFSET + below(VERMOLGAS_MARK_BYTES);
+        buffers[1].before[place] = buffers[1].bytes[place] = (uint8_t)below(0);
+    }
     uint64_t answer = vermolgas_packet(buffers[0].bytes, buffers[0].length, buffers[1].bytes, buffers[1].length,
                                        buffers[2].bytes, buffers[2].length, buffers[3].bytes, buffers[3].length,
                                        buffers[4].bytes, buffers[4].length, buffers[5].bytes, buffers[5].length);
@@ -335,6 +339,33 @@ static void try_packet(bool *accepted)
         memcpy(reply, buffers[5].bytes, reply_length);
         reply_checksum = packet[0] & VERMOLGAS_OPTION_CHECKSUM;
     }
+}
+
+/* What the mark in a block says, row by row. */
+static uint64_t rows_in(const uint8_t *bytes)
+{
+    uint64_t marked = 0, lowest = VERMOLGAS_NO_ROW;
+    for (size_t row = VERMOLGAS_MOST_ROWS; row-- > 0;)
+        if ((bytes[VERMOLGAS_MARK_OFFSET + row / 8] >> row % 8 & 1) != 0) {
+            marked++;
+            lowest = row;
+        }
+    return marked << 8 | lowest << 16;
+}
+
+/* The kept block, a part of it with any bytes, or a block of any length. */
+static void try_rows(bool *accepted)
+{
+    if (one_in(8))
+        lend_pattern(0, below(2 * sizeof block));
+    else
+        lend_kept(0, block, sizeof block);
+    for (size_t i = below(sizeof block), end = i + 8; i < end && i < buffers[0].length; i++)
+        buffers[0].before[i] = buffers[0].bytes[i] = (uint8_t)below(0);
+    uint64_t answer = vermolgas_rows(buffers[0].bytes, buffers[0].length);
+    *accepted = VERMOLGAS_STATUS(answer) == VERMOLGAS_ACCEPTED;
+    CHECK(*accepted == (buffers[0].length == sizeof block) && unchanged_from(0, 0));
+    CHECK(answer == (*accepted ? rows_in(buffers[0].bytes) : VERMOLGAS_REFUSED_LENT));
 }
 
 static void try_read(bool *accepted)
@@ -478,9 +509,10 @@ static struct entry {
     {"vermolgas_read", try_read, 3, 0, 0},             {"vermolgas_make", try_make, 3, 0, 0},
     {"vermolgas_read_reply", try_read_reply, 2, 0, 0}, {"vermolgas_plan", try_plan, 1, 0, 0},
     {"vermolgas_compress", try_compress, 1, 0, 0},     {"vermolgas_split", try_split, 1, 0, 0},
+    {"vermolgas_rows", try_rows, 1, 0, 0},
 };
 
-enum { ENTRIES = sizeof entries / sizeof *entries, SHARES = 18 };
+enum { ENTRIES = sizeof entries / sizeof *entries, SHARES = 19 };
 
 static struct entry *any_entry(void)
 {

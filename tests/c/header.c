@@ -692,6 +692,65 @@ static void refuse_splits(void)
     CHECK(blend.batch[0] == 0xAA && blend.batch[least - 1] == 0xAA);
 }
 
+/* The row mark as it lies in the block. */
+static uint32_t mark(void)
+{
+    uint32_t bits = 0;
+    for (size_t i = 0; i < VERMOLGAS_MARK_BYTES; i++)
+        bits |= (uint32_t)lent.block[VERMOLGAS_MARK_OFFSET + i] << 8 * i;
+    return bits;
+}
+
+static uint64_t rows(void)
+{
+    return vermolgas_rows(lent.block, sizeof lent.block);
+}
+
+/* Points of rows 1 and 31, shapes and apply. */
+static void mark_rows(void)
+{
+    memset(&lent, 0xAA, sizeof lent);
+    CHECK(vermolgas_reset(LENT) == VERMOLGAS_ACCEPTED);
+    CHECK(rows() == (uint64_t)VERMOLGAS_NO_ROW << 16 && VERMOLGAS_ROWS_LOWEST(rows()) == VERMOLGAS_NO_ROW);
+    CHECK(send(BYTES(0x14, 0x34, 0x06, 0x00, 0x3E, 0x00, 0x01, 0x00, 0x00, 0x00)) == replied(0));
+    CHECK(mark() == 2 && rows() == (1u << 8 | 1u << 16));
+    CHECK(send(BYTES(0x14, 0x34, 0x06, 0x00, 0xBF, 0x07, 0x00, 0x00, 0x00, 0x01)) == replied(0));
+    CHECK(mark() == 0x80000002 && VERMOLGAS_STATUS(rows()) == VERMOLGAS_ACCEPTED);
+    CHECK(VERMOLGAS_ROWS_MARKED(rows()) == 2 && VERMOLGAS_ROWS_LOWEST(rows()) == 1);
+    CHECK(send(BYTES(0x14, 0x34, 0x06, 0x00, 0x3E, 0x00, 0x00, 0x00, 0x00, 0x00)) == replied(0));
+    CHECK(mark() == 0x80000000 && rows() == (1u << 8 | 31u << 16));
+
+    /* No point of fewer rows differs; with all of them point 1983 does. */
+    CHECK(send(BYTES(0x14, 0x35, 0x05, 0x00, 0x00, 0x3E, 0x00, 0x1F, 0x00)) == replied(0) && mark() == 0);
+    CHECK(send(BYTES(0x14, 0x35, 0x05, 0x00, 0x00, 0x3E, 0x00, 0x20, 0x00)) == replied(0) && mark() == 0x80000000);
+    CHECK(send(BYTES(0x04, 0x36, 0x00)) == replied(0) && mark() == 0x80000000);
+    CHECK(send(BYTES(0x04, 0x36, 0x02)) == fault_at(0) && mark() == 0x80000000);
+    CHECK(send(BYTES(0x04, 0x36, 0x01)) == replied(0) && mark() == 0);
+}
+
+/* A mark that no packet made: not judged, mended where it is worked out, cleared by reset. */
+static void lend_marks(void)
+{
+    CHECK(vermolgas_reset(LENT) == VERMOLGAS_ACCEPTED);
+    memset(lent.block + VERMOLGAS_MARK_OFFSET, 0xFF, VERMOLGAS_BLOCK_BYTES - VERMOLGAS_MARK_OFFSET);
+    CHECK(rows() == (uint64_t)VERMOLGAS_MOST_ROWS << 8 && VERMOLGAS_ROWS_MARKED(rows()) == 32);
+    CHECK(send(BYTES(0x04, 0x11, 0x01)) == replied(0) && send(BYTES(0x84, 0x34, 0x00, 0x00, 0x01, 0x00)) == replied(7));
+    CHECK(send(BYTES(0x14, 0x34, 0x06, 0x00, 0xC0, 0x07, 0x00, 0x00, 0x00, 0x00)) == VERMOLGAS_REFUSED_PAST_TABLE);
+    CHECK(mark() == 0xFFFFFFFF);
+    CHECK(send(BYTES(0x14, 0x34, 0x06, 0x00, 0x3D, 0x00, 0x00, 0x00, 0x00, 0x00)) == replied(0));
+    CHECK(mark() == 0xFFFFFFFE && VERMOLGAS_ROWS_LOWEST(rows()) == 1);
+    CHECK(send(BYTES(0x14, 0x35, 0x05, 0x00, 0x00, 0x02, 0x00, 0x02, 0x00)) == replied(0) && mark() == 0);
+    CHECK(lent.block[VERMOLGAS_MARK_OFFSET + VERMOLGAS_MARK_BYTES] == 0xFF);
+    CHECK(lent.block[VERMOLGAS_BLOCK_BYTES - 1] == 0xFF);
+
+    /* Nothing else of the block is looked at, but its length. */
+    memset(lent.block, 0xFF, sizeof lent.block);
+    CHECK(rows() == (uint64_t)VERMOLGAS_MOST_ROWS << 8);
+    CHECK(vermolgas_rows(lent.block, sizeof lent.block - 1) == VERMOLGAS_REFUSED_LENT);
+    CHECK(vermolgas_rows(lent.block, 0) == VERMOLGAS_REFUSED_LENT && vermolgas_rows(NULL, 0) == VERMOLGAS_REFUSED_LENT);
+    CHECK(vermolgas_reset(LENT) == VERMOLGAS_ACCEPTED && mark() == 0);
+}
+
 static const struct group groups[] = {
     {"reset", reset_controllers},     {"packets", send_packets},           {"packets refused", refuse_sent_packets},
     {"reading", read_packets},        {"reading refused", refuse_packets}, {"making", make_packets},
@@ -700,6 +759,7 @@ static const struct group groups[] = {
     {"pairs refused", refuse_pairs},  {"fields at fault", find_faults},    {"entries at fault", find_entries},
     {"words at fault", find_words},   {"no place", miss_faults},           {"compressing", compress_gains},
     {"compressing refused", refuse_gains}, {"splitting", split_pairs},     {"splitting refused", refuse_splits},
+    {"rows marked", mark_rows},       {"marks lent", lend_marks},
 };
 
 int main(void)

@@ -9,6 +9,7 @@ struct vermolgas_upload upload;
 struct vermolgas_reply reply;
 struct vermolgas_walk walk;
 struct vermolgas_blend blend;
+struct vermolgas_rows_result rows;
 struct vermolgas_point point;
 uint8_t bytes[VERMOLGAS_LONGEST];
 uint16_t gains[1];
@@ -25,6 +26,7 @@ void mistakes(void)
 #ifdef IGNORED
     vermolgas_reset(NULL, 0, NULL, 0, NULL, 0, NULL, 0);                       /* caught */
     vermolgas_packet(bytes, 3, NULL, 0, NULL, 0, NULL, 0, NULL, 0, NULL, 0);   /* caught */
+    vermolgas_rows(NULL, 0);                                                   /* caught */
     vermolgas_read(bytes, 3);                                                  /* caught */
     vermolgas_make(0x11, 0, bytes, 1, bytes, sizeof bytes);                    /* caught */
     vermolgas_read_reply(bytes, 3, 0);                                         /* caught */
@@ -36,6 +38,8 @@ void mistakes(void)
     vermolgas_device_reset(&device);                                           /* caught */
     vermolgas_device_send(&device, bytes, 3, &reply);                          /* caught */
     vermolgas_reply_read(&reply, 3, false);                                    /* caught */
+    vermolgas_device_rows(&device);                                            /* caught */
+    vermolgas_row_marked(rows, 0);                                             /* caught */
     vermolgas_make_command(VERMOLGAS_OP_DISPLAY, 0, bytes, 1);                 /* caught */
     vermolgas_make_display(VERMOLGAS_DISPLAY_SPLASH, 0);                       /* caught */
     vermolgas_make_low_latency(true, 0);                                       /* caught */
@@ -76,6 +80,8 @@ void mistakes(void)
     bytes[0] = VERMOLGAS_FAULT_PLACE(VERMOLGAS_STATUS(answer)) == 1;           /* caught */
     bytes[0] = VERMOLGAS_COMPRESS_PAIRS(narrow) == 1;                          /* caught */
     bytes[0] = VERMOLGAS_SPLIT_BYTES(narrow) == 1;                             /* caught */
+    bytes[0] = VERMOLGAS_ROWS_MARKED(narrow) == 1;                             /* caught */
+    bytes[0] = VERMOLGAS_ROWS_LOWEST(rows.mark) == 1;                          /* caught */
     bytes[0] = VERMOLGAS_READ_LENGTH(answer) == 1;
 #endif
 
@@ -83,6 +89,8 @@ void mistakes(void)
     if (vermolgas_device_send(&device, bytes, 3, &reply))                      /* caught */
         bytes[0] = 1;
     if (vermolgas_make_freeze(true, 0))                                        /* caught */
+        bytes[0] = 1;
+    if (vermolgas_device_rows(&device))                                        /* caught */
         bytes[0] = 1;
     if (vermolgas_device_send(&device, bytes, 3, &reply).status)
         bytes[0] = 1;
@@ -97,6 +105,7 @@ void mistakes(void)
 #ifdef SWAPPED
     status = vermolgas_upload_start(&device, &upload);                         /* caught */
     status = vermolgas_device_reset(&upload);                                  /* caught */
+    rows = vermolgas_device_rows(&upload);                                     /* caught */
     status = vermolgas_blend_pack(&upload, VERMOLGAS_GAIN_ALL, 0, gains, 1);   /* caught */
     status = vermolgas_upload_start(&upload, &device);
 #endif

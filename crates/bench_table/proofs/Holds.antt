@@ -20,6 +20,9 @@ use Rattle.settings.specs.Reset.{resetShape, resetBlock, resetMap, resetGains}
 use Rattle.controller.specs.State.{State, state, lengthsRight, stopped}
 use Rattle.controller.specs.Commands.{colourInto, readGains, readPoints, shapeBytes, writeShape, readShape, applyBlock, applyLive}
 use Rattle.controller.specs.Commands.{writeSmooth, readSmooth, blockAfter, written, blockBack, dataBack, runsPast}
+use Rattle.rows.specs.Bits.{bitsOf, ofBits}
+use Rattle.rows.specs.Rows.{differ, eachFrom, refreshed}
+use Rattle.controller.specs.Mark.{markAfter, markedBlock}
 use Rattle.controller.specs.Step.{Out, out, numberOf, replyTo, step}
 use Rattle.controller.specs.Calls.{stateAfterAll}
 use Rattle.controller.proofs.Demands.{state-lent}
@@ -76,7 +79,7 @@ allHold [] = true
 allHold (r ∷ rs) = holds r && allHold rs
 
 all-hold : T (allHold rows)
-unfolding checksum over fault wordsAt riseFrom rise firstLarge expand sumRuns pairFault commandOf judgement pointsSizeWrong gainsSizeWrong controlSizeWrong smoothSizeWrong sizeWrong wordsFault gainsFault listsFault controlFault smoothFault valueFault replyBytes placeOf pictureFields deviceFields right shapeRight settingsRight resetShape resetBlock resetMap resetGains stopped colourInto readGains readPoints shapeBytes writeShape readShape applyBlock applyLive writeSmooth readSmooth blockAfter written blockBack dataBack runsPast numberOf replyTo step stateAfterAll packetOf differs best rooms more choices firsts planFrom planOf packetFor packetsOf joined batchOf planNumbers planned
+unfolding checksum over fault wordsAt riseFrom rise firstLarge expand sumRuns pairFault commandOf judgement pointsSizeWrong gainsSizeWrong controlSizeWrong smoothSizeWrong sizeWrong wordsFault gainsFault listsFault controlFault smoothFault valueFault replyBytes placeOf pictureFields deviceFields right shapeRight settingsRight resetShape resetBlock resetMap resetGains stopped colourInto readGains readPoints shapeBytes writeShape readShape applyBlock applyLive writeSmooth readSmooth blockAfter written bitsOf ofBits differ eachFrom refreshed markAfter markedBlock blockBack dataBack runsPast numberOf replyTo step stateAfterAll packetOf differs best rooms more choices firsts planFrom planOf packetFor packetsOf joined batchOf planNumbers planned
 all-hold = tt
 
 -- ---- What it tells.

@@ -60,10 +60,11 @@ withSetting place v =
       gains = resetState .gains;
     }
 
-abbrev pub withPoint : ℕ → ℕ → ℕ → State
-withPoint place x y =
+-- With a byte of the row mark, which says that the point's row moved.
+abbrev pub withPoint : ℕ → ℕ → ℕ → ℕ → ℕ → State
+withPoint place x y markPlace mark =
     record {
-      block = resetState .block;
+      block = set (resetState .block) markPlace mark;
       staged = withNumbers (resetState .staged) place x y;
       live = resetState .live;
       gains = resetState .gains;
@@ -89,6 +90,14 @@ refused packet number = row packet number [] resetState
 abbrev pub faulty : List ℕ → ℕ → List ℕ → BenchRow
 faulty packet place reply =
     packets (record { before = []; packet = packet; status = 10; fault = place; reply = reply; after = resetState })
+
+-- Rule 8.1: the last point of the map after reset, 1983, in row 31, becomes (1, 2).
+abbrev pub lastPoint : List ℕ
+lastPoint = 0x14 ∷ 0x34 ∷ 0x06 ∷ 0x00 ∷ 0xBF ∷ 0x07 ∷ 0x01 ∷ 0x00 ∷ 0x02 ∷ 0x00 ∷ []
+
+-- A packet after it.
+abbrev pub afterPoint : List ℕ → State → BenchRow
+afterPoint packet after = packets (record { before = lastPoint ∷ []; packet = packet; status = 0; fault = 0; reply = []; after = after })
 
 -- Rule 8.1.
 abbrev pub rows : List BenchRow
@@ -129,9 +138,26 @@ rows =
     -- * `04 34 00 00 08 00 10 00`: 8. * `14 34 02 00 00 00`: 9.
     ∷ refused (0x04 ∷ 0x34 ∷ 0x00 ∷ 0x00 ∷ 0x08 ∷ 0x00 ∷ 0x10 ∷ 0x00 ∷ []) 8
     ∷ refused (0x14 ∷ 0x34 ∷ 0x02 ∷ 0x00 ∷ 0x00 ∷ 0x00 ∷ []) 9
-    -- * `14 34 06 00 BF 07 01 00 02 00`: point 1983 becomes (1, 2). * With `C0 07`: 12.
-    ∷ row (0x14 ∷ 0x34 ∷ 0x06 ∷ 0x00 ∷ 0xBF ∷ 0x07 ∷ 0x01 ∷ 0x00 ∷ 0x02 ∷ 0x00 ∷ []) 0 [] (withPoint 3966 1 2)
+    -- * `14 34 06 00 BF 07 01 00 02 00`: point 1983 becomes (1, 2), and row 31 is marked. * With `C0 07`: 12.
+    ∷ row lastPoint 0 [] (withPoint 3966 1 2 868 0x80)
     ∷ refused (0x14 ∷ 0x34 ∷ 0x06 ∷ 0x00 ∷ 0xC0 ∷ 0x07 ∷ 0x01 ∷ 0x00 ∷ 0x02 ∷ 0x00 ∷ []) 12
+    -- After it, rule 11.2: * the same point back where it was, and * a shape of 2 × 2: no row is marked. * `04 36 00` leaves the mark, * `04 36 01` clears it.
+    ∷ afterPoint (0x14 ∷ 0x34 ∷ 0x06 ∷ 0x00 ∷ 0xBF ∷ 0x07 ∷ 0x00 ∷ 0x00 ∷ 0x00 ∷ 0x00 ∷ []) resetState
+    ∷ afterPoint (0x14 ∷ 0x35 ∷ 0x05 ∷ 0x00 ∷ 0x00 ∷ 0x02 ∷ 0x00 ∷ 0x02 ∷ 0x00 ∷ [])
+    (record {
+      block = set (set (resetState .block) 9 2) 11 2;
+      staged = withNumbers (resetState .staged) 3966 1 2;
+      live = resetState .live;
+      gains = resetState .gains;
+    })
+    ∷ afterPoint (0x04 ∷ 0x36 ∷ 0x00 ∷ []) (withPoint 3966 1 2 868 0x80)
+    ∷ afterPoint (0x04 ∷ 0x36 ∷ 0x01 ∷ [])
+    (record {
+      block = set (resetState .block) 201 1;
+      staged = withNumbers (resetState .staged) 3966 1 2;
+      live = withNumbers (resetState .live) 3966 1 2;
+      gains = resetState .gains;
+    })
     -- * `14 2B 08 00 00 01 01 00 DF 07 00 14`: red gain 2015 becomes 5120.
     ∷ row (0x14 ∷ 0x2B ∷ 0x08 ∷ 0x00 ∷ 0x00 ∷ 0x01 ∷ 0x01 ∷ 0x00 ∷ 0xDF ∷ 0x07 ∷ 0x00 ∷ 0x14 ∷ []) 0 [] (withGains 2015 (5120 ∷ []))
     -- * `14 2B 0A 00 01 01 02 00 DE 07 02 00 00 14`: red gains 2014 and 2015 become 5120. * With `DF 07`: 12. * With a run of 0: 10, at 6.

@@ -228,6 +228,7 @@ sides block shape e = first-of (right (fieldsOf 0x35) block shape) _ _ e
 
 -- The staged shape has at most 1,984 points, and the smooth table at most 25.
 pub record Counts (block : List ℕ) : Type 0 where
+  pub columns-some : 2 ≤ columnsAt block stagedShape
   pub columns : columnsAt block stagedShape ≤ 62
   pub rows : rowsAt block stagedShape ≤ 32
   pub points : columnsAt block stagedShape * rowsAt block stagedShape ≤ 1984
@@ -247,6 +248,7 @@ counts block e =
     let smooth-columns : (3 ≤ byteAt block smoothTable) × (byteAt block smoothTable ≤ 5) = omega arith in
     let smooth-rows : (3 ≤ byteAt block (smoothTable + 1)) × (byteAt block (smoothTable + 1) ≤ 5) = omega arith in
     record {
+      columns-some = omega arith;
       columns = columns;
       rows = rows;
       points = mul-le-mul columns rows;

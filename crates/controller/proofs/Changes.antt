@@ -1,6 +1,6 @@
 -- What a packet changes: nothing, unless it is an accepted write. Such a write copies into the block at most once, inside the bytes that its
 -- command owns; one that applies copies twice.
-use Prim.Native.Nat.{ℕ, _+_, _*_, _-_, _≤_, min}
+use Prim.Native.Nat.{ℕ, _+_, _*_, _-_, _≤_, _<_, min}
 use mathlib.Core.Path.{_≡_, refl, _∙_}
 use mathlib.Core.Bool.{Bool, true, false, cond, and-false}
 use mathlib.Core.List.{List, [], _∷_, _++_}
@@ -24,7 +24,8 @@ use Rattle.settings.specs.Layout.{blockSize, enable, liveShape, settingsEnd, sh
 use Rattle.settings.specs.Layout.{placeOf, placeIn, places, slot}
 use Rattle.settings.proofs.Fits.{place-fits, write-long}
 use Rattle.controller.specs.State.{State, stopped}
-use Rattle.controller.specs.Commands.{shapeBytes, writeShape, applyBlock, writeSmooth, blockAfter, written}
+use Rattle.controller.specs.Commands.{shapeBytes, writeShape, applyBlock, writeSmooth, blockAfter}
+use Rattle.controller.specs.Mark.{writtenMarked}
 use Rattle.controller.specs.Step.{readAndPlaced, decision, numberOf, step}
 use Rattle.controller.proofs.Bounds.{Commanded, commanded, write-data}
 use Rattle.controller.proofs.Reach.{Other, Kind, kindOf, other-after}
@@ -51,7 +52,7 @@ passed p s reply e = go (stopped s reply) refl e
 -- One packet: the state stays, or it is what an accepted write leaves.
 pub data Way (p : List ℕ) (s : State) (reply : List ℕ) : Type 0 where
   same : step p s reply .state ≡ s → Way p s reply
-  wrote : step p s reply .status ≡ 0 → isRead (headerOf p) ≡ 0 → Passed p s reply → step p s reply .state ≡ written (opcodeOf p) (dataOf p) s
+  wrote : step p s reply .status ≡ 0 → isRead (headerOf p) ≡ 0 → Passed p s reply → step p s reply .state ≡ writtenMarked (opcodeOf p) (dataOf p) s
       → Way p s reply
 
 pub way : (p : List ℕ) (s : State) (reply : List ℕ) → Way p s reply
@@ -82,6 +83,7 @@ pub record Copy (op : ℕ) (d from : List ℕ) (to n : ℕ) : Type 0 where
   pub owned-to : to + n ≤ ownEnd op d
   pub ends : to + n ≤ settingsEnd
   pub beside : min (smoothTable - to) (to + n - liveShape) ≡ 0
+  pub off-staged : (op ≡ 0x35 → ⊥) → min (enable - to) (to + n - stagedShape) ≡ 0
   pub long : n ≤ length from
 
 -- An accepted 36h write of 1 copies twice: enable, and then the staged shape to the live one's place.
@@ -103,26 +105,26 @@ pub data Change (op : ℕ) (d : List ℕ) : Type 0 where
   applied : op ≡ 0x36 → byteAt d 0 ≡ 1 → ((block : List ℕ) → blockAfter op d block ≡ paste (enabled block) liveShape (drop stagedShape block) shapeSize)
       → Change op d
 
--- Computed for every command: its place lies behind the live shape; or it has one place alone, before it.
-abbrev Aside : ℕ → Type 0
-Aside op = min (smoothTable - placeIn op places .first) (placeIn op places .first + 1000 * placeIn op places .step + commandOf op .back - liveShape) ≡ 0
+-- Computed for every command: its place lies behind a shape, which stands from low to high; or it has one place alone, before it.
+abbrev Aside : ℕ → ℕ → ℕ → Type 0
+Aside low high op = min (high - placeIn op places .first) (placeIn op places .first + 1000 * placeIn op places .step + commandOf op .back - low) ≡ 0
 
--- A command with several places has all of them behind the live shape.
-far : (at by back : ℕ) → min (smoothTable - at) (at + 1000 * by + back - liveShape) ≡ 0 → 1 ≤ by → smoothTable ≤ at
-far at by back h some = omega arith
+-- A command with several places has all of them behind the shape.
+far : (low high at by back : ℕ) → low < 1000 → min (high - at) (at + 1000 * by + back - low) ≡ 0 → 1 ≤ by → high ≤ at
+far low high at by back l h some = omega arith
 
-beside-far : (at n : ℕ) → smoothTable ≤ at → min (smoothTable - at) (at + n - liveShape) ≡ 0
-beside-far at n h = omega arith
+beside-far : (low high at n : ℕ) → high ≤ at → min (high - at) (at + n - low) ≡ 0
+beside-far low high at n h = omega arith
 
-aside-place : (at by times back : ℕ) → min (smoothTable - at) (at + 1000 * by + back - liveShape) ≡ 0
-    → min (smoothTable - (at + by * times)) (at + by * times + back - liveShape) ≡ 0
-aside-place at by times back h =
+aside-place : (low high at by times back : ℕ) → low < 1000 → min (high - at) (at + 1000 * by + back - low) ≡ 0
+    → min (high - (at + by * times)) (at + by * times + back - low) ≡ 0
+aside-place low high at by times back l h =
     elim (ℕ-discrete by 0) [
       | yes e ↦
           let here : at + by * times ≡ at = rw e (omega arith) in
           let once : at + 1000 * by + back ≡ at + back = omega arith in
           rw here (rw once at h)
-      | no e ↦ beside-far (at + by * times) back (omega (arith, far at by back h (omega arith)))
+      | no e ↦ beside-far low high (at + by * times) back (omega (arith, far low high at by back l h (omega arith)))
     ]
 
 module _ (op o : ℕ) (d : List ℕ) (h : isRead o ≡ 0) (e : first (judgement op o d) ≡ 0) where
@@ -132,9 +134,13 @@ module _ (op o : ℕ) (d : List ℕ) (h : isRead o ≡ 0) (e : first (judgement 
       let silent = first-silent (judgement op o d) (omega arith) e in
       Allowed.sets h (silent-write op o d h silent) (silent-length op o d h silent)
 
-  aside : Aside op
+  aside : Aside liveShape smoothTable op
   unfolding judgement commandOf
-  aside = of-carried Aside (omega arith) op (first-silent (judgement op o d) (omega arith) e .0)
+  aside = of-carried (Aside liveShape smoothTable) (omega arith) op (first-silent (judgement op o d) (omega arith) e .0)
+
+  aside-staged : Aside stagedShape enable op
+  unfolding judgement commandOf
+  aside-staged = of-carried (Aside stagedShape enable) (omega arith) op (first-silent (judgement op o d) (omega arith) e .0)
 
   other-copy : Other op → Copy op d (drop (commandOf op .read) d) (placeOf op d) (commandOf op .back)
   unfolding placeOf
@@ -147,7 +153,8 @@ module _ (op o : ℕ) (d : List ℕ) (h : isRead o ≡ 0) (e : first (judgement 
         owned-from = omega arith;
         owned-to = omega arith;
         ends = place-fits write-allowed m;
-        beside = aside-place (placeIn op places .first) (placeIn op places .step) (slot op (byteAt d 0)) (commandOf op .back) aside;
+        beside = aside-place liveShape smoothTable (placeIn op places .first) (placeIn op places .step) (slot op (byteAt d 0)) (commandOf op .back) (omega arith) aside;
+        off-staged = λ z. aside-place stagedShape enable (placeIn op places .first) (placeIn op places .step) (slot op (byteAt d 0)) (commandOf op .back) (omega arith) aside-staged;
         long = rw length-drop (omega (arith, write-long write-allowed h m));
       }
 

@@ -1,10 +1,11 @@
 -- Demands 1 and 2 of one packet on a state. The number is the first of the list; it is 0 exactly if each test is false, and each test is false
 -- exactly if what it tests is right. Then reset.
-use Prim.Native.Nat.{ℕ, _≤_, _<_}
+use Prim.Native.Nat.{ℕ, _^_, _≤_, _<_}
 use mathlib.Core.Path.{_≡_, refl, sym, ap, _∙_}
 use mathlib.Core.Logic.{_↔_}
 use mathlib.Core.Bool.{Bool, true, false, true≢false}
 use mathlib.Core.List.{List, [], _∷_, _++_}
+use native.Mathlib.Nat.{zero-div}
 use native.Mathlib.Omega.{arith}
 use native.Mathlib.Decide.{ℕ-discrete}
 use borrow.Author.Tests.{eq-eqb, ne-eqb, le-leb, ltb-false, le-ltb}
@@ -27,7 +28,10 @@ use Rattle.packet.proofs.Exactly.{exactly}
 use Rattle.settings.specs.Ranges.{settingsRight}
 use Rattle.settings.proofs.Allowed.{settings-exactly, reset-allowed}
 use Rattle.settings.proofs.AfterReset.{reset-bytes, reset-points, reset-gains}
-use Rattle.controller.specs.State.{State, lengthsRight, stopped, ResetOut, reset, replyRoom}
+use Rattle.settings.specs.Reset.{resetBlock}
+use Rattle.settings.specs.AfterReset.{byteAfterReset}
+use Rattle.controller.specs.State.{State, lengthsRight, stopped, ResetOut, reset, resetState, replyRoom}
+use Rattle.controller.specs.Rows.{markOf, MarkRight}
 use Rattle.controller.specs.Commands.{runsPast}
 use Rattle.controller.specs.Step.{reads, readAndPlaced, decision, stepRefusals, numberOf, statusReply, replyTo, Out, out, step}
 use Rattle.controller.specs.Demands.{StateLent, LentRight, Demand1, Demand2, Placed, Accepted, Resets}
@@ -149,7 +153,7 @@ abbrev tests : List ℕ → State → List (ℕ × Bool)
 tests p s = (12, runsPast (opcodeOf p) (reads p) (dataOf p) (s .block)) ∷ []
 
 -- A packet is accepted exactly if what is lent is right, its frame is sound, its data is allowed and its start and count fit.
-accepted-exactly : (p : List ℕ) → ((k : ℕ) → getD p k 0 < 256) → (s : State) (reply : List ℕ) → (step p s reply .status ≡ 0) ↔ Accepted p s reply
+pub accepted-exactly : (p : List ℕ) → ((k : ℕ) → getD p k 0 < 256) → (s : State) (reply : List ℕ) → (step p s reply .status ≡ 0) ↔ Accepted p s reply
 unfolding step numberOf
 accepted-exactly p bytes s reply = (to, from)
   where
@@ -214,40 +218,24 @@ decided p s reply e =
     let q = first-silent (stepRefusals p s reply) (numbered p s reply) e in
     (q .0, decision-number p (s .block) ∙ silent-first (readAndPlaced p (s .block)) (q .1))
 
--- Demand 2: accepted exactly if the rules allow it, and then state and reply are those of the command.
-pub demand2 : (p : List ℕ) → ((k : ℕ) → getD p k 0 < 256) → (s : State) (reply : List ℕ) → Demand2 p s reply (step p s reply)
-demand2 p bytes s reply =
-    record {
-      exactly = accepted-exactly p bytes s reply;
-      writes = λ a w.
-          let d = decided p s reply (accepted-exactly p bytes s reply .1 a) in
-          step-written p s reply (d .0) (d .1) (ne-eqb (isRead (headerOf p)) 1 (omega arith));
-      reads = λ a r.
-          let d = decided p s reply (accepted-exactly p bytes s reply .1 a) in
-          step-read p s reply (d .0) (d .1) (eq-eqb (isRead (headerOf p)) 1 r);
-      leaves = λ a w.
-          let d = decided p s reply (accepted-exactly p bytes s reply .1 a) in
-          let some = some-left s (written-data (a .taken .allowed) (omega arith)) in
-          record {
-            after = some .after;
-            by = some .by;
-            answer =
-                step-written p s reply (d .0) (d .1) (ne-eqb (isRead (headerOf p)) 1 (omega arith))
-                ∙ ap (λ (t : State). out 0 0 (length (statusReply 0 0 p)) t (over (statusReply 0 0 p) reply)) (leaves (some .by));
-          };
-      returns = λ a r.
-          let d = decided p s reply (accepted-exactly p bytes s reply .1 a) in
-          let some = some-returned s (a .lent .settings) (read-data (a .taken .allowed) (omega arith)) in
-          record {
-            back = some .back;
-            by = some .by;
-            answer =
-                step-read p s reply (d .0) (d .1) (eq-eqb (isRead (headerOf p)) 1 r)
-                ∙ ap (λ (back : List ℕ). out 0 0 (length (replyBytes (eqb (hasSum (headerOf p)) 1) 0 back)) s (over (replyBytes (eqb (hasSum (headerOf p)) 1) 0 back) reply)) (returns (some .by));
-          };
-    }
-
 -- ---- Reset.
+
+-- No row is marked, and none has moved: the maps are the same.
+no-mark : markOf resetBlock ≡ 0
+unfolding byteAfterReset
+no-mark =
+    rw (
+      reset-bytes 865 (omega arith),
+      reset-bytes 866 (omega arith),
+      reset-bytes 867 (omega arith),
+      reset-bytes 868 (omega arith),
+    )
+
+pub mark-reset : MarkRight resetState
+mark-reset =
+    record {
+      each = λ r l. (λ e. absurd (omega (arith, rw no-mark at e, zero-div (2 ^ r))), λ m. absurd (m .differs .other refl refl));
+    }
 
 pub resets : (s : State) {o : ResetOut} → o ≡ reset s → Resets s o
 unfolding reset
@@ -264,6 +252,7 @@ resets s {o} same = go (lengthsRight s) refl
           block-after = λ z. reset-bytes;
           maps-after = λ z k. (reset-points k, reset-points k);
           gains-after = λ z. reset-gains;
+          mark-after = λ z. (no-mark, mark-reset);
         })
     go false e =
         let none : StateLent s → ⊥ = λ l. true≢false (sym (state-lent s .1 l) ∙ e) in
@@ -276,4 +265,5 @@ resets s {o} same = go (lengthsRight s) refl
           block-after = λ z. absurd (omega arith);
           maps-after = λ z. absurd (omega arith);
           gains-after = λ z. absurd (omega arith);
+          mark-after = λ z. absurd (omega arith);
         })

@@ -18,7 +18,8 @@ use Rattle.opcode.specs.Judgement.{inPairs}
 use Rattle.packet.specs.Frame.{headerOf}
 use Rattle.packet.specs.Reading.{Answer, commandAt, refusedBy}
 use Rattle.controller.specs.State.{State, state, stopped}
-use Rattle.controller.specs.Commands.{third, gainsColour, gainsStart, gainsPlace, gainsWords, gainsSent, gainsInto, colourInto, writeGains, written, dataBack}
+use Rattle.controller.specs.Commands.{third, gainsColour, gainsStart, gainsPlace, gainsWords, gainsSent, gainsInto, colourInto, writeGains, dataBack}
+use Rattle.controller.specs.Mark.{writtenMarked}
 use Rattle.controller.specs.Step.{reads, decision, statusReply, readReply, out, step}
 use Rattle.controller.specs.Internal.{Granted, PointsWrite, PointsRead, GainsWrite, GainsRead}
 use Rattle.controller.proofs.Bounds.{points-write, points-read, gains-write, gains-read, commanded, refused}
@@ -117,7 +118,7 @@ module _ (p : List ℕ) (s : State) (reply : List ℕ) (runs : stopped s reply �
         let reads-it : reads p ≡ true = c .same-reads ∙ rw r in
         rw (e .0, e .1, c .same-part, c .same-opcode, same-sum (headerOf p) o (c .same-options)) (sym (step-read p s reply runs accepted reads-it))
 
-    pub stores-write : {n : ℕ} {s′ : State} {answer : List ℕ} → isRead o ≡ 0 → s′ ≡ written op (take (at + size - at) (drop at p)) s
+    pub stores-write : {n : ℕ} {s′ : State} {answer : List ℕ} → isRead o ≡ 0 → s′ ≡ writtenMarked op (take (at + size - at) (drop at p)) s
         → Overwrites n (statusReply 0 0 p) reply answer → out 0 0 n s′ answer ≡ step p s reply
     stores-write r w e =
         let c = commanded p (s .block) op o at size told in

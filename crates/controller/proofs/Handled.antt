@@ -13,13 +13,16 @@ use Rattle.controller.specs.State.{State, stopped}
 use Rattle.controller.specs.Commands.{runsPast}
 use Rattle.controller.specs.Step.{Out, reads, numberOf, step}
 use Rattle.controller.specs.Demands.{Handled}
-use Rattle.controller.proofs.Demands.{runs, right-running, demand1, demand2}
+use Rattle.controller.proofs.Demands.{runs, right-running, demand1}
+use Rattle.controller.proofs.Accepting.{demand2}
 use Rattle.controller.proofs.ReadBack.{replied}
 use Rattle.controller.proofs.Kept.{tail-kept}
 use Rattle.controller.proofs.Live.{one-kept}
 use Rattle.controller.proofs.InRange.{stays-lent}
 use Rattle.controller.proofs.Applied.{applied, cleared-by}
 use Rattle.controller.proofs.Same.{same-write}
+use Rattle.controller.proofs.Marking.{rows-marked}
+use Rattle.controller.proofs.Unmarked.{unmarked}
 
 -- Refusals 1 to 6 stand before those of the command, and 12 behind them.
 step-located : (p : List ℕ) → ((k : ℕ) → getD p k 0 < 256) → (s : State) (reply : List ℕ)
@@ -43,5 +46,7 @@ handled p bytes s reply e =
       applied = applied p s reply;
       cleared-by = cleared-by p s reply;
       live = one-kept p s reply;
+      rows = rows-marked p s reply;
+      unmarked = λ t h. unmarked p bytes s t reply h;
       same-write = λ l. same-write p s reply (runs s reply (right-running l));
     })

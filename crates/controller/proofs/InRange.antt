@@ -36,12 +36,14 @@ use Rattle.controller.specs.State.{State, replyRoom}
 use Rattle.controller.specs.Commands.{gainsSent, gainsInto, colourInto, writeGains, shapeBytes, writeShape, applyBlock, applyLive, writeSmooth, blockAfter, written, runsPast, third}
 use Rattle.controller.specs.Step.{numberOf, replyTo, step}
 use Rattle.controller.specs.Internal.{PointsWrite, GainsWrite}
-use Rattle.controller.specs.Demands.{LentRight}
+use Rattle.controller.specs.Demands.{StateLent, LentRight}
 use Rattle.controller.proofs.Demands.{Running, running-right, right-running}
 use Rattle.controller.proofs.Bounds.{write-data, points-write, gains-write}
 use Rattle.controller.proofs.Reach.{Kind, kindOf, other-after}
 use Rattle.controller.proofs.Sizes.{smooth-size, fixed-rest}
 use Rattle.controller.proofs.Changes.{Way, way, changed, changed-long, enabled, enabled-long, write-allowed}
+use Rattle.controller.specs.Mark.{marked}
+use Rattle.controller.proofs.Marks.{mark-alone, mark-right}
 use Rattle.settings.specs.Reset.{gainsSize, mapSize}
 
 -- ---- Settings.
@@ -100,7 +102,7 @@ shape-put block from n small long l e new =
       device = inl (omega arith);
     })
 
-shape-stays : {d : List ℕ} (block : List ℕ) → WriteData 0x35 d → length block ≡ blockSize → settingsRight block ≡ true
+pub shape-stays : {d : List ℕ} (block : List ℕ) → WriteData 0x35 d → length block ≡ blockSize → settingsRight block ≡ true
     → settingsRight (writeShape d block) ≡ true
 unfolding writeShape shapeBytes commandOf
 shape-stays {d} block (WriteData.shape {c₀} {c₁} {r₀} {r₁} h i j k) l e =
@@ -182,7 +184,7 @@ module _ (o : ℕ) (d block : List ℕ) (bytes : (k : ℕ) → getD d k 0 < 256)
             rw zero (rw zero at enable-stays)
       ]
 
-settings-stay : (op o : ℕ) (d block : List ℕ) → ((k : ℕ) → getD d k 0 < 256) → isRead o ≡ 0 → first (judgement op o d) ≡ 0
+pub settings-stay : (op o : ℕ) (d block : List ℕ) → ((k : ℕ) → getD d k 0 < 256) → isRead o ≡ 0 → first (judgement op o d) ≡ 0
     → length block ≡ blockSize → settingsRight block ≡ true → settingsRight (blockAfter op d block) ≡ true
 unfolding blockAfter
 settings-stay op o d block bytes h j l e = go (kindOf op)
@@ -235,33 +237,49 @@ over-long s buffer = simp (length-append, length-drop) (omega arith)
 
 -- ---- The state.
 
+pub written-tables : (op o : ℕ) (d : List ℕ) (s : State) (reply : List ℕ) → isRead o ≡ 0 → first (judgement op o d) ≡ 0
+    → runsPast op (eqb (isRead o) 1) d (s .block) ≡ false → Running s reply → StateLent (written op d s)
+unfolding written
+written-tables op o d s reply h j past l =
+    let t = l .tables in
+    record {
+      block = changed-long (changed op o d h j) (s .block) (t .block);
+      staged =
+          elim (ℕ-discrete op 0x34) [
+            | yes m ↦ rw m (points-long d (s .staged) (points-write o d (s .block) h (rw m at j) (rw m at past) (l .settings)) (t .staged))
+            | no m ↦ rw (ne-eqb op 0x34 m) (t .staged)
+          ];
+      live =
+          elim (ℕ-discrete op 0x36) [
+            | yes a ↦ rw a (live-long d (s .staged) (s .live) (t .staged) (t .live))
+            | no a ↦ rw (ne-eqb op 0x36 a) (t .live)
+          ];
+      gains =
+          elim (ℕ-discrete op 0x2B) [
+            | yes g ↦ rw g (gains-long d (s .gains) (gains-write o d (s .block) h (rw g at j) (rw g at past)) (t .gains))
+            | no g ↦ rw (ne-eqb op 0x2B g) (t .gains)
+          ];
+    }
+
 written-lent : (op o : ℕ) (d : List ℕ) (s : State) (reply reply′ : List ℕ) → ((k : ℕ) → getD d k 0 < 256) → isRead o ≡ 0
     → first (judgement op o d) ≡ 0 → runsPast op (eqb (isRead o) 1) d (s .block) ≡ false → replyRoom ≤ length reply′ → Running s reply
     → Running (written op d s) reply′
 unfolding written
 written-lent op o d s reply reply′ bytes h j past room l =
-    let t = l .tables in
     record {
-      tables = record {
-        block = changed-long (changed op o d h j) (s .block) (t .block);
-        staged =
-            elim (ℕ-discrete op 0x34) [
-              | yes m ↦ rw m (points-long d (s .staged) (points-write o d (s .block) h (rw m at j) (rw m at past) (l .settings)) (t .staged))
-              | no m ↦ rw (ne-eqb op 0x34 m) (t .staged)
-            ];
-        live =
-            elim (ℕ-discrete op 0x36) [
-              | yes a ↦ rw a (live-long d (s .staged) (s .live) (t .staged) (t .live))
-              | no a ↦ rw (ne-eqb op 0x36 a) (t .live)
-            ];
-        gains =
-            elim (ℕ-discrete op 0x2B) [
-              | yes g ↦ rw g (gains-long d (s .gains) (gains-write o d (s .block) h (rw g at j) (rw g at past)) (t .gains))
-              | no g ↦ rw (ne-eqb op 0x2B g) (t .gains)
-            ];
-      };
+      tables = written-tables op o d s reply h j past l;
       room = room;
-      settings = settings-stay op o d (s .block) bytes h j (t .block) (l .settings);
+      settings = settings-stay op o d (s .block) bytes h j (l .tables .block) (l .settings);
+    }
+
+-- The mark is no setting.
+marked-lent : (op : ℕ) (d : List ℕ) (s : State) (reply : List ℕ) → Running s reply → Running (marked op d s) reply
+marked-lent op d s reply l =
+    let alone = mark-alone op d (s .block) (s .staged) (s .live) (l .tables .block) in
+    record {
+      tables = record { block = alone .long ∙ l .tables .block; staged = l .tables .staged; live = l .tables .live; gains = l .tables .gains };
+      room = l .room;
+      settings = mark-right alone ∙ l .settings;
     }
 
 pub stays-lent : (p : List ℕ) → ((k : ℕ) → getD p k 0 < 256) → (s : State) (reply : List ℕ) → LentRight s reply
@@ -280,5 +298,6 @@ stays-lent p bytes s reply right = running-right (go (way p s reply))
         rw e (record { tables = l .tables; room = room; settings = l .settings })
     go (Way.wrote st r a e) =
         rw e
+        (marked-lent (opcodeOf p) (dataOf p) (written (opcodeOf p) (dataOf p) s) (step p s reply .reply)
         (written-lent (opcodeOf p) (optionsIn (headerOf p)) (dataOf p) s reply (step p s reply .reply) (bytes-of-data p bytes) (omega arith)
-        (a .command .judged) (a .command .within) room l)
+        (a .command .judged) (a .command .within) room l))

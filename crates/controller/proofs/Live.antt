@@ -15,9 +15,11 @@ use Rattle.packet.specs.Frame.{headerOf, opcodeOf, dataOf}
 use Rattle.controller.specs.State.{State}
 use Rattle.controller.specs.Commands.{blockAfter, liveAfter, written, applyLive}
 use Rattle.controller.specs.Step.{step}
-use Rattle.controller.specs.Demands.{Applies, LiveKept}
+use Rattle.controller.specs.Writes.{Applies}
+use Rattle.controller.specs.Demands.{LiveKept}
 use Rattle.controller.specs.Calls.{Call, stateAfterAll, NoneApplies}
-use Rattle.controller.proofs.Changes.{Way, way, Change, changed}
+use Rattle.controller.proofs.Changes.{Way, way, Change, changed, changed-long}
+use Rattle.controller.proofs.Marks.{mark-alone, front-part}
 use Rattle.settings.specs.Layout.{blockSize, liveShape, shapeSize}
 
 shape-changed : {op : ℕ} {d : List ℕ} → (op ≡ 0x36 → byteAt d 0 ≡ 1 → ⊥) → Change op d → (block : List ℕ) → length block ≡ blockSize
@@ -29,7 +31,7 @@ shape-changed other (Change.copied from to n c e) block l =
     rw (e block) (sym (same-part (paste-apart block from to n room (c .long) liveShape shapeSize (c .beside)) (omega arith) (omega arith)))
 shape-changed other (Change.applied a v e) block l = absurd (other a v)
 
-live-written : (op : ℕ) (d staged live : List ℕ) → (op ≡ 0x36 → byteAt d 0 ≡ 1 → ⊥) → live ≡ liveAfter op d staged live
+pub live-written : (op : ℕ) (d staged live : List ℕ) → (op ≡ 0x36 → byteAt d 0 ≡ 1 → ⊥) → live ≡ liveAfter op d staged live
 unfolding applyLive
 live-written op d staged live other =
     elim (ℕ-discrete op 0x36) [
@@ -45,12 +47,15 @@ one-kept p s reply other = go (way p s reply)
     go (Way.same e) = rw e (record { points-kept = refl; settings-kept = refl })
     go (Way.wrote st r a e) =
         let not-applied : opcodeOf p ≡ 0x36 → byteAt (dataOf p) 0 ≡ 1 → ⊥ = λ o v. other (st, o, r, v) in
+        let by = changed (opcodeOf p) (optionsIn (headerOf p)) (dataOf p) (omega arith) (a .command .judged) in
+        let long = changed-long by (s .block) (a .lent .tables .block) in
+        let after : State = written (opcodeOf p) (dataOf p) s in
+        let alone = mark-alone (opcodeOf p) (dataOf p) (after .block) (after .staged) (after .live) long in
         rw e
         (record {
           points-kept = live-written (opcodeOf p) (dataOf p) (s .staged) (s .live) not-applied;
           settings-kept =
-              shape-changed not-applied
-              (changed (opcodeOf p) (optionsIn (headerOf p)) (dataOf p) (omega arith) (a .command .judged)) (s .block) (a .lent .tables .block);
+              shape-changed not-applied by (s .block) (a .lent .tables .block) ∙ sym (front-part alone liveShape shapeSize (omega arith) (omega arith));
         })
 
 chain : {s t u : State} → LiveKept s t → LiveKept t u → LiveKept s u

@@ -19,11 +19,13 @@ use Rattle.packet.specs.Points.{startOf, countOf, acceptedAt, mapAfter}
 use Rattle.packet.proofs.Frames.{reading-number, accepted}
 use Rattle.controller.specs.State.{State, state, stopped}
 use Rattle.controller.specs.Commands.{points, runsPast, written, blockAfter}
+use Rattle.controller.specs.Mark.{marked}
 use Rattle.controller.specs.Step.{Out, out, reads, readAndPlaced, statusReply, step}
 use Rattle.controller.proofs.Steps.{decision-number, step-written}
 use Rattle.controller.proofs.Demands.{decided}
 use Rattle.controller.proofs.Changes.{Way, way}
-use Rattle.controller.specs.Demands.{Writes34, SameWrite}
+use Rattle.controller.specs.Writes.{Writes}
+use Rattle.controller.specs.Demands.{SameWrite}
 
 refusals-numbered : (p : List ℕ) → Numbered (refusals p)
 unfolding judgement
@@ -83,10 +85,10 @@ placed p block o w = (
     passes false e = refl
 
 module _ (p : List ℕ) (s : State) (reply : List ℕ) (runs : stopped s reply ≡ false) where
-  -- What the judge accepts: the write alone.
+  -- What the judge accepts: the write alone, and its rows marked.
   pub accepted-step : acceptedAt (points (s .block)) p ≡ true
       → step p s reply
-      ≡ out 0 0 (length (statusReply 0 0 p)) (state (s .block) (mapAfter (points (s .block)) p (s .staged)) (s .live) (s .gains))
+      ≡ out 0 0 (length (statusReply 0 0 p)) (marked 0x34 (dataOf p) (state (s .block) (mapAfter (points (s .block)) p (s .staged)) (s .live) (s .gains)))
       (over (statusReply 0 0 p) reply)
   unfolding mapAfter written blockAfter
   accepted-step a =
@@ -94,7 +96,7 @@ module _ (p : List ℕ) (s : State) (reply : List ℕ) (runs : stopped s reply �
       let none = decision-number p (s .block) ∙ placed p (s .block) (j .opcode) (j .write) .1 j in
       step-written p s reply runs none (ne-eqb (isRead (headerOf p)) 1 (omega arith)) ∙ rw (j .opcode, a)
 
-  write-accepted : Writes34 p (step p s reply) → acceptedAt (points (s .block)) p ≡ true
+  write-accepted : Writes 0x34 p (step p s reply) → acceptedAt (points (s .block)) p ≡ true
   write-accepted w =
       let none = decided p s reply (w .0) .1 in
       judges (points (s .block)) p (placed p (s .block) (w .1) (w .2) .0 (sym (decision-number p (s .block)) ∙ none))

@@ -12,7 +12,7 @@ use Rattle.wire.specs.Buffers.{over}
 use Rattle.packet.specs.Frame.{headerOf, opcodeOf, dataOf}
 use Rattle.packet.specs.Reading.{faultOf, answered}
 use Rattle.controller.specs.State.{State, stopped}
-use Rattle.controller.specs.Commands.{written}
+use Rattle.controller.specs.Mark.{writtenMarked}
 use Rattle.controller.specs.Step.{reads, readAndPlaced, decision, numberOf, answers, replyTo, statusReply, readReply, outOf, step}
 
 -- The number that a decision gives is the first of its refusals.
@@ -73,7 +73,7 @@ module _ (p : List ℕ) (s : State) (reply : List ℕ) where
           status = 0;
           fault = 0;
           size = length (statusReply 0 0 p);
-          state = written (opcodeOf p) (dataOf p) s;
+          state = writtenMarked (opcodeOf p) (dataOf p) s;
           reply = over (statusReply 0 0 p) reply;
         }
     unfolding replyTo statusReply

@@ -3,7 +3,7 @@ use Prim.Native.Nat.{ℕ}
 use mathlib.Core.List.{List, [], _∷_}
 use Rattle.controller.specs.State.{State}
 use Rattle.controller.specs.Step.{step}
-use Rattle.controller.specs.Demands.{Applies}
+use Rattle.controller.specs.Writes.{Applies}
 
 -- A call: the packet, and the reply buffer that is lent with it.
 pub record Call : Type 0 where

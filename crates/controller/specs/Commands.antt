@@ -140,7 +140,8 @@ liveAfter op d staged live = cond (eqb op 0x36) (applyLive d staged live) live
 abbrev pub gainsAfter : ℕ → List ℕ → List ℕ → List ℕ
 gainsAfter op d gains = cond (eqb op 0x2B) (writeGains d gains) gains
 
--- The state after an accepted write. Of 35h only the block changes, so that staged points keep their index (rule 5.5).
+-- What an accepted write's command leaves; the row mark is worked out behind it (Mark). Of 35h only the block changes, so that staged points keep their index
+-- (rule 5.5).
 unfoldable pub written : ℕ → List ℕ → State → State
 written op d s =
     record {

@@ -1,6 +1,6 @@
 -- What is demanded of one packet on a state, of whatever an entry answers and leaves (`Out`): that a refusal changes nothing, that a packet is
--- accepted exactly when the rules allow it and does then what they say, and what follows for replies, ranges, the live side and bytes without a
--- meaning. What is right is said here apart from the tests that decide it. `Handled` stands in the contracts of the entries.
+-- accepted exactly when the rules allow it and does then what they say, and what follows for replies, ranges, the live side, the row mark and bytes
+-- without a meaning. What is right is said here apart from the tests that decide it. `Handled` stands in the contracts of the entries.
 use Prim.Native.Nat.{ℕ, _+_, _-_, _*_, _/_, _≤_, _<_}
 use mathlib.Core.Path.{_≡_}
 use mathlib.Core.Logic.{_↔_, _⊎_}
@@ -25,8 +25,10 @@ use Rattle.reply.specs.Reading.{replyReading}
 use Rattle.settings.specs.Allowed.{SettingsAllowed}
 use Rattle.settings.specs.AfterReset.{byteAfterReset}
 use Rattle.controller.specs.State.{State, state, ResetOut, resetOut, reset}
-use Rattle.controller.specs.Commands.{written}
-use Rattle.controller.specs.Effects.{Leaves, Returns}
+use Rattle.controller.specs.Effects.{blockWith, Leaves, Returns}
+use Rattle.controller.specs.Mark.{writtenMarked}
+use Rattle.controller.specs.Writes.{Writes, Sets36, Applies}
+use Rattle.controller.specs.Rows.{markOf, columnsOf, rowsOf, MarkRight, RowsMarked, SameButMark, SameAnswer}
 use Rattle.controller.specs.Step.{stepRefusals, statusReply, readReply, replyData, Out, out, step}
 
 -- ---- What is lent.
@@ -48,7 +50,7 @@ pub record LentRight (s : State) (reply : List ℕ) : Type 0 where
 
 -- Rule 5.4: the staged shape's points: columns × rows, as they stand in the block.
 abbrev pub stagedPoints : List ℕ → ℕ
-stagedPoints block = two (getD block 9 0) (getD block 10 0) * two (getD block 11 0) (getD block 12 0)
+stagedPoints block = columnsOf block * rowsOf block
 
 -- Rule 5.4: the start is a packet's first number; its points are what stands behind it, four bytes each.
 abbrev pub pointsEnd : List ℕ → ℕ
@@ -84,7 +86,7 @@ pub record Demand1 (p : List ℕ) (s : State) (reply : List ℕ) (o : Out) : Typ
   -- Rule 4.2: the reply buffer changes only where the reply is written.
   pub behind : drop (o .size) (o .reply) ≡ drop (o .size) reply
 
--- ---- Demand 2: which packets are accepted, and what they do (rules 5.1 to 5.9 and 5.11).
+-- ---- Demand 2: which packets are accepted, and what they do (rules 5.1 to 5.9, 5.11 and 11.2).
 
 -- Rules 2.1 to 5.9 and 5.11: when a packet is accepted: what is lent is right, its frame is sound and meant for us, its data is allowed, and its
 -- start and count lie within their table.
@@ -93,11 +95,13 @@ pub record Accepted (p : List ℕ) (s : State) (reply : List ℕ) : Type 0 where
   pub taken : Taken p
   pub placed : Placed p (s .block)
 
--- Command by command, with every place as a number: an accepted write leaves one of these states, and an accepted read returns one of these data.
+-- Command by command, with every place as a number: an accepted write leaves one of these states, but for the row mark, of which `rows` below speaks; and an
+-- accepted read returns one of these data.
 pub record Left (p : List ℕ) (s : State) (reply : List ℕ) (o : Out) : Type 0 where
   pub after : State
   pub by : Leaves s (opcodeOf p) (dataOf p) after
-  pub answer : o ≡ out 0 0 (length (statusReply 0 0 p)) after (over (statusReply 0 0 p) reply)
+  pub answer : o
+      ≡ out 0 0 (length (statusReply 0 0 p)) (blockWith after 865 (take 4 (drop 865 (o .state .block)))) (over (statusReply 0 0 p) reply)
 
 pub record Returned (p : List ℕ) (s : State) (reply : List ℕ) (o : Out) : Type 0 where
   pub back : List ℕ
@@ -109,7 +113,7 @@ pub record Returned (p : List ℕ) (s : State) (reply : List ℕ) (o : Out) : Ty
 pub record Demand2 (p : List ℕ) (s : State) (reply : List ℕ) (o : Out) : Type 0 where
   pub exactly : (o .status ≡ 0) ↔ Accepted p s reply
   pub writes : Accepted p s reply → isRead (headerOf p) ≡ 0
-      → o ≡ out 0 0 (length (statusReply 0 0 p)) (written (opcodeOf p) (dataOf p) s) (over (statusReply 0 0 p) reply)
+      → o ≡ out 0 0 (length (statusReply 0 0 p)) (writtenMarked (opcodeOf p) (dataOf p) s) (over (statusReply 0 0 p) reply)
   pub reads : Accepted p s reply → isRead (headerOf p) ≡ 1
       → o
       ≡ out 0 0 (length (readReply (opcodeOf p) (headerOf p) (dataOf p) s)) s (over (readReply (opcodeOf p) (headerOf p) (dataOf p) s) reply)
@@ -137,13 +141,6 @@ pub record Replied (p : List ℕ) (s : State) (o : Out) : Type 0 where
 
 -- ---- 36h, rule 5.6: the live side is the points, and the shape, mode and lists in the block; enable stands before it.
 
--- A packet that is an accepted 36h write of so much.
-abbrev pub Sets36 : ℕ → List ℕ → Out → Type 0
-Sets36 v p o = (o .status ≡ 0) × (opcodeOf p ≡ 0x36) × (isRead (headerOf p) ≡ 0) × (byteAt (dataOf p) 0 ≡ v)
-
-abbrev pub Applies : List ℕ → Out → Type 0
-Applies = Sets36 1
-
 -- Rule 5.6: 1 makes the staged side of that moment live, and enable is 1.
 pub record Applied (s t : State) : Type 0 where
   pub points-live : t .live ≡ s .staged
@@ -161,14 +158,10 @@ pub record LiveKept (s t : State) : Type 0 where
 
 -- ---- 34h, rules 5.4 and 7.1: the judge of lists and the front end go by one write.
 
--- A packet that is an accepted 34h write.
-abbrev pub Writes34 : List ℕ → Out → Type 0
-Writes34 p o = (o .status ≡ 0) × (opcodeOf p ≡ 0x34) × (isRead (headerOf p) ≡ 0)
-
 -- Rules 5.4 and 7.1: the staged points stand where the judge has a map of N points.
 pub record SameWrite (p : List ℕ) (s : State) (o : Out) : Type 0 where
   pub staged : o .state .staged ≡ mapAfter (stagedPoints (s .block)) p (s .staged)
-  pub accepted : (acceptedAt (stagedPoints (s .block)) p ≡ true) ↔ Writes34 p o
+  pub accepted : (acceptedAt (stagedPoints (s .block)) p ≡ true) ↔ Writes 0x34 p o
 
 -- ---- The promise of the entries, on tables of numbers.
 
@@ -182,11 +175,15 @@ pub record Handled (p : List ℕ) (s : State) (reply : List ℕ) (o : Out) : Typ
   -- What was lent right is left so, each setting in its range.
   pub stays : LentRight s reply → LentRight (o .state) (o .reply)
   -- Rule 1.4: block bytes without a meaning are as they were.
-  pub tail : drop 865 (o .state .block) ≡ drop 865 (s .block)
+  pub tail : drop 869 (o .state .block) ≡ drop 869 (s .block)
   pub applied : Applies p o → Applied s (o .state)
   pub cleared-by : Sets36 0 p o → o .state ≡ cleared s
   pub live : (Applies p o → ⊥) → LiveKept s (o .state)
   pub same-write : LentRight s reply → SameWrite p s o
+  -- Rules 11.2 and 11.3: what becomes of the row mark.
+  pub rows : RowsMarked p s o
+  -- Rule 11.5: on a state that has another mark, and is else the same, the answer, the reply and all but the mark are the same.
+  pub unmarked : (t : State) → SameButMark s t → SameAnswer o (step p t reply)
 
 -- Rule 5.10: the whole block and all tables if the lengths are right, and what it leaves is in range; else 1, and all as it was.
 pub record Resets (s : State) (o : ResetOut) : Type 0 where
@@ -197,3 +194,5 @@ pub record Resets (s : State) (o : ResetOut) : Type 0 where
   pub block-after : o .status ≡ 0 → (k : ℕ) → k < 1024 → getD (o .state .block) k 0 ≡ byteAfterReset k
   pub maps-after : o .status ≡ 0 → (k : ℕ) → (getD (o .state .staged) k 0 ≡ 0) × (getD (o .state .live) k 0 ≡ 0)
   pub gains-after : o .status ≡ 0 → (k : ℕ) → k < 6048 → getD (o .state .gains) k 0 ≡ 4096
+  -- Rules 11.2 and 11.3: no row is marked, which is right.
+  pub mark-after : o .status ≡ 0 → (markOf (o .state .block) ≡ 0) × MarkRight (o .state)

@@ -1,4 +1,4 @@
--- What an accepted write leaves and what an accepted read returns, command by command and row by row of docs/LAYOUT.md, with every place as a number:
+-- What an accepted write leaves, but for the row mark, and what an accepted read returns, command by command and row by row of docs/LAYOUT.md, with every place as a number:
 -- said apart from the definitions by which the front end goes (Commands, and the places of the layout).
 use Prim.Native.Nat.{ℕ, _+_, _*_, _≤_}
 use mathlib.Core.Path.{_≡_}
@@ -25,7 +25,7 @@ pub data StandFor : ℕ → List ℕ → List ℕ → Type 0 where
   plain : {ws : List ℕ} → StandFor 0 ws (words ws)
   pairs : {ws : List ℕ} → StandFor 1 ws (expand (words ws))
 
--- Opcode, data, and the state that is left.
+-- Opcode, data, and the state that is left, before the row mark is worked out.
 pub data Leaves (s : State) : ℕ → List ℕ → State → Type 0 where
   -- Rule 5.1.
   display : {v : ℕ} → Leaves s 0x11 (v ∷ []) (blockWith s 0 (v ∷ []))

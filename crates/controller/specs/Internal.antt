@@ -1,6 +1,6 @@
 -- What only functions inside the library need, and no rule: what a command names of a table, and what is known of a command once it has been accepted, its data judged right,
 -- its start and count fitting, and the block in range.
-use Prim.Native.Nat.{ℕ, _+_, _*_, _^_, _≤_, _<_}
+use Prim.Native.Nat.{ℕ, _+_, _-_, _*_, _^_, _≤_, _<_}
 use mathlib.Core.Path.{_≡_}
 use mathlib.Core.Bool.{Bool, true, false}
 use mathlib.Core.List.{List}
@@ -11,12 +11,16 @@ use Rattle.wire.specs.Numbers.{byteAt, wordAt}
 use Rattle.opcode.specs.Options.{isRead}
 use Rattle.opcode.specs.Judgement.{judgement}
 use Rattle.packet.specs.Points.{startOf, pointsOf, countOf}
-use Rattle.settings.specs.Layout.{blockSize}
+use Rattle.rows.specs.Bits.{bitsOf}
+use Rattle.rows.specs.Rows.{markRows, rowDiffers, refreshed}
+use Rattle.settings.specs.Layout.{blockSize, stagedShape, columnsAt, rowsAt}
 use Rattle.settings.specs.Ranges.{settingsRight}
 use Rattle.settings.specs.Reset.{mapSize, gainsSize}
 use Rattle.controller.specs.declared.Points.{Points}
 use Rattle.controller.specs.declared.Gains.{Gains}
-use Rattle.controller.specs.Commands.{pointCount, gainsColour, gainsStart, wordCount, gainsCount, gainsPlace, runsPast, third, gainsSent}
+use Rattle.controller.specs.declared.mark.Fresh.{Fresh}
+use Rattle.controller.specs.Mark.{markAt, markBits, firstTouched, lastTouched, markAfter, marks}
+use Rattle.controller.specs.Commands.{points, pointCount, gainsColour, gainsStart, wordCount, gainsCount, gainsPlace, runsPast, third, gainsSent}
 
 -- What a 34h command names, of a read's data or a write's; no sum of it can wrap.
 pub record PointsNamed (reads : Bool) (d : List ℕ) (r : Points) : Type 0 where
@@ -65,6 +69,28 @@ pub record GainsRead (d : List ℕ) : Type 0 where
   pub colour : (1 ≤ byteAt d 0) × (byteAt d 0 ≤ 3)
   pub few : wordAt d 3 ≤ 254
   pub ends : wordAt d 1 + wordAt d 3 ≤ third
+
+-- A block as an accepted write leaves it, before the mark is worked out: in range, and of a 34h write with its points, one or more, within the shape.
+pub record MarkGranted (op : ℕ) (d block : List ℕ) : Type 0 where
+  pub settings : settingsRight block ≡ true
+  pub placed : op ≡ 0x34 → (1 ≤ countOf d) × (startOf d + countOf d ≤ points block)
+
+-- The rows that a 34h write touches.
+pub record RowsNamed (d block : List ℕ) (r : Fresh) : Type 0 where
+  pub changes : r .changes ≡ true
+  pub mark : r .mark ≡ markAt block
+  pub first : r .first ≡ firstTouched (columnsAt block stagedShape) d
+  pub end : r .end ≡ lastTouched (columnsAt block stagedShape) d + 1
+  pub columns : r .columns ≡ columnsAt block stagedShape
+
+-- The rows that any accepted write works out, within any map: put into the mark to begin with, they give the mark after it.
+pub record RowsFresh (op : ℕ) (d block : List ℕ) (r : Fresh) : Type 0 where
+  pub changes : r .changes ≡ marks op d
+  pub few : r .end ≤ markRows
+  pub room : 2 * (r .columns * r .end) ≤ mapSize
+  pub whole : r .changes ≡ true → (staged live : List ℕ)
+      → markAfter op d (columnsAt block stagedShape) (rowsAt block stagedShape) staged live (markBits block)
+      ≡ refreshed (rowDiffers (r .columns) staged live) (r .first) (r .end - r .first) (bitsOf markRows (r .mark))
 
 -- An accepted read or write on tables of the right length, of so many elements a number: one where numbers are lent, two where bytes are.
 pub record ReadGranted (wide op o : ℕ) (d block staged gains : List ℕ) : Type 0 where

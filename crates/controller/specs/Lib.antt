@@ -1,7 +1,10 @@
 -- The front end: what one packet does to a state, what it answers, and reset.
 pub mod State
 pub mod Commands
+pub mod Mark
 pub mod Step
+pub mod Writes
+pub mod Rows
 pub mod Effects
 pub mod Demands
 pub mod Calls

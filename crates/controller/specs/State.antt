@@ -33,8 +33,8 @@ lengthsRight s =
     && eqb (length (s .live)) mapSize
     && eqb (length (s .gains)) gainsSize
 
--- Rule 4.1, 1: a length is wrong, the reply buffer is under 512 bytes, or a setting is out of range. What tables hold is not judged
--- (rule 1.4).
+-- Rule 4.1, 1: a length is wrong, the reply buffer is under 512 bytes, or a setting is out of range. Neither what tables hold nor
+-- the row mark is judged (rule 1.4).
 unfoldable pub stopped : State → List ℕ → Bool
 stopped s reply = not (lengthsRight s && leb replyRoom (length reply)) || not (settingsRight (s .block))
 

@@ -12,7 +12,8 @@ use Rattle.packet.specs.Frame.{headerOf, opcodeOf, dataOf}
 use Rattle.packet.specs.Reading.{Answer, refusals, faultOf, answered}
 use Rattle.reply.specs.Reply.{replyBytes}
 use Rattle.controller.specs.State.{State, stopped}
-use Rattle.controller.specs.Commands.{written, dataBack, runsPast}
+use Rattle.controller.specs.Commands.{dataBack, runsPast}
+use Rattle.controller.specs.Mark.{writtenMarked}
 
 abbrev pub reads : List ℕ → Bool
 reads p = eqb (isRead (headerOf p)) 1
@@ -61,7 +62,7 @@ replyTo number p s =
 
 -- Rule 4.2: a refusal changes neither settings nor tables; a read does not either.
 abbrev pub stateAfter : ℕ → List ℕ → State → State
-stateAfter number p s = cond (eqb number 0 && not (reads p)) (written (opcodeOf p) (dataOf p) s) s
+stateAfter number p s = cond (eqb number 0 && not (reads p)) (writtenMarked (opcodeOf p) (dataOf p) s) s
 
 -- Rule 3.4: the status, the place of its fault (rule 4.6), and the length of the reply, 0 where there is none. Then all that was lent, as it is left.
 pub record Out : Type 0 where

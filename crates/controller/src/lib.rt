@@ -1,5 +1,7 @@
 // The front end's part that needs no table: the decision on a packet, the settings of the block, and replies of a status. Both families of
 // entries, on 16-bit tables and on tables lent as bytes, stand on it.
+pub mod mark;
+
 use opcode::bits;
 use packet::Reading;
 use settings::layout::*;
@@ -217,7 +219,7 @@ pub fn refuse(decision: Reading, packet: &[u8], reply: &mut [u8]) -> Outcome
     Outcome { why, size }
 }
 
-// The block after an accepted write: of 2Bh and 34h, which store in tables, it is as it was. What any other stores ends its data, behind the pin or port. Sizes come
+// What an accepted write's command stores in the block; 2Bh and 34h store in tables alone. The row mark is put behind it (`mark`). What any other stores ends its data, behind the pin or port. Sizes come
 // by `size_of`, since the table of opcodes would be built on the stack once more.
 pub fn store(block: &mut [u8], opcode: usize, options: usize, data: &[u8])
     requires { ⌜ (length (now block) ≡ blockSize) × (isRead options ≡ 0)

@@ -17,13 +17,16 @@ ghost use Prim.Native.Nat.{_+_, _≤_};
 ghost use lib.ListN.{length};
 ghost use Rattle.wire.specs.Buffers.{Overwrites};
 ghost use Rattle.packet.specs.Reading.{commandAt};
+ghost use Rattle.settings.specs.Layout.{blockSize};
 ghost use Rattle.settings.specs.Reset.{mapSize, gainsSize};
 ghost use Rattle.controller.specs.State.{replyRoom, dataRoom, state, resetOut, lengthsRight, «stopped» as stoppedBy};
 ghost use Rattle.controller.specs.Commands.{stagedAfter, liveAfter, gainsAfter, written, readPoints, readGains, dataBack};
 ghost use Rattle.controller.specs.Commands.{gainsSent, gainsInto};
+ghost use Rattle.controller.specs.Mark.{markedBlock, writtenMarked};
 ghost use Rattle.controller.specs.Step.{«out» as outcome, decision, readReply, step};
 ghost use Rattle.controller.specs.Demands.{Handled, Resets};
 ghost use Rattle.controller.specs.Internal.{PointsWrite, PointsRead, GainsWrite, GainsRead, ReadGranted, WriteGranted};
+ghost use Rattle.controller.specs.Internal.{MarkGranted};
 
 // Puts the block and all tables as they are after reset. Answers 0, or 1 for a wrong length, when nothing is changed.
 pub fn reset(block: &mut [u8], staged: &mut [u16], live: &mut [u16], gains: &mut [u16]) -> u8
@@ -149,7 +152,7 @@ fn perform(
             size: n,
         };
     }
-    store(opcode, options, data, block, staged, live, gains);
+    write(opcode, options, data, block, staged, live, gains);
     let n = controller::acknowledge(packet, 0, 0, reply);
     Outcome {
         why: wire::ACCEPTED,
@@ -240,7 +243,48 @@ fn fetch_gains(out: &mut [u8], data: &[u8], gains: &[u16]) -> usize
     2 * named.count
 }
 
-// An accepted write: into the block and the tables that its command names.
+// An accepted write: what its command stores, and then the mark of the rows that moved.
+fn write(
+    opcode: usize,
+    options: usize,
+    data: &[u8],
+    block: &mut [u8],
+    staged: &mut [u16],
+    live: &mut [u16],
+    gains: &mut [u16],
+)
+    requires { ⌜ WriteGranted 1 opcode options (now «data») (now block) (now staged) (now live) (now gains) ⌝ }
+    ensures { λ _. ⌜ state (now (block .exit)) (now (staged .exit)) (now (live .exit)) (now (gains .exit))
+        ≡ writtenMarked opcode (now («data» .entry))
+        (state (now (block .entry)) (now (staged .entry)) (now (live .entry)) (now (gains .entry))) ⌝ }
+{
+    store(opcode, options, data, block, staged, live, gains);
+    mark_rows(opcode, data, block, staged, live);
+}
+
+// The mark as the write leaves it: the rows that it works out, in both maps as they are now.
+fn mark_rows(opcode: usize, data: &[u8], block: &mut [u8], staged: &[u16], live: &[u16])
+    requires { ⌜ MarkGranted opcode (now «data») (now block) × (length (now block) ≡ blockSize)
+        × (length (now staged) ≡ mapSize) × (length (now live) ≡ mapSize) ⌝ }
+    ensures { λ _. ⌜ now (block .exit) ≡ markedBlock opcode (now («data» .entry)) (now (block .entry)) (now (staged .entry))
+        (now (live .entry)) ⌝ }
+{
+    let fresh = controller::mark::fresh_rows(opcode, data, block);
+    if !fresh.changes {
+        return;
+    }
+    let mark = rows::numbers::refresh(
+        fresh.mark,
+        fresh.first,
+        fresh.end,
+        fresh.columns,
+        staged,
+        live,
+    );
+    controller::mark::put(block, mark);
+}
+
+// What the command stores: in the block and in the tables that it names.
 fn store(
     opcode: usize,
     options: usize,

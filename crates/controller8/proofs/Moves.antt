@@ -20,7 +20,9 @@ use Rattle.settings.specs.Reset.{mapSize, gainsSize}
 use Rattle.controller.specs.Commands.{pointCount, third, gainsColour, gainsPlace, gainsWords, gainsSent, gainsInto, writeGains}
 use Rattle.controller.specs.Internal.{PointsWrite, GainsWrite}
 use Rattle.controller.proofs.Grants.{sent-pairs, sent-plain, plain-many, gains-three}
-use Rattle.controller8.specs.Bytes.{mapBytes, gainsBytes}
+use Rattle.controller.specs.State.{State}
+use Rattle.controller.specs.Mark.{markedBlock, marked}
+use Rattle.controller8.specs.Bytes.{mapBytes, gainsBytes, Lent, lent, lentOf}
 
 -- ---- Out of a table.
 
@@ -88,3 +90,13 @@ three-stored d gains place red green blue here none er eg eb =
     ∙ ap (λ (w : List ℕ). bytes (gainsInto w (2 * third + place) (gainsSent d))) second
     ∙ ap (λ (w : List ℕ). bytes (gainsInto (gainsInto w (third + place) (gainsSent d)) (2 * third + place) (gainsSent d))) first
     ∙ ap bytes (gains-three d (words gains) place here none)
+
+-- The mark worked out on bytes, from the numbers that they hold.
+pub marked-bytes : (op : ℕ) (d : List ℕ) (s : State) {block staged live gains after : List ℕ} → lent block staged live gains ≡ lentOf s
+    → after ≡ markedBlock op d block (words staged) (words live) → lent after staged live gains ≡ lentOf (marked op d s)
+marked-bytes op d s e m =
+    let b = ap (λ (l : Lent). l .block) e in
+    let st = ap (λ (l : Lent). l .staged) e in
+    let lv = ap (λ (l : Lent). l .live) e in
+    let g = ap (λ (l : Lent). l .gains) e in
+    rw (m, b, st, lv, g, words-bytes (s .staged), words-bytes (s .live))

@@ -17,12 +17,15 @@ ghost use lib.ListN.{length};
 ghost use Rattle.wire.specs.Buffers.{Overwrites};
 ghost use Rattle.wire.specs.Tables.{words, bytes};
 ghost use Rattle.packet.specs.Reading.{commandAt};
+ghost use Rattle.settings.specs.Layout.{blockSize};
 ghost use Rattle.settings.specs.Reset.{gainsSize};
 ghost use Rattle.controller.specs.State.{replyRoom, dataRoom, «stopped» as stoppedBy};
 ghost use Rattle.controller.specs.Commands.{stagedAfter, liveAfter, gainsAfter, written, readPoints, readGains, dataBack};
 ghost use Rattle.controller.specs.Commands.{gainsSent, gainsInto};
+ghost use Rattle.controller.specs.Mark.{markedBlock, writtenMarked};
 ghost use Rattle.controller.specs.Step.{decision, readReply};
 ghost use Rattle.controller.specs.Internal.{PointsWrite, PointsRead, GainsWrite, GainsRead, ReadGranted, WriteGranted};
+ghost use Rattle.controller.specs.Internal.{MarkGranted};
 ghost use Rattle.controller8.specs.Bytes.{mapBytes, gainsBytes, lent, stateIn, lentOf, byteLengthsRight, stoppedBytes};
 ghost use Rattle.controller8.specs.Bytes.{lentOut, stepBytes, lentReset, HandledBytes, ResetsBytes};
 
@@ -160,7 +163,7 @@ fn perform(
             size: n,
         };
     }
-    store(opcode, options, data, block, staged, live, gains);
+    write(opcode, options, data, block, staged, live, gains);
     let n = controller::acknowledge(packet, 0, 0, reply);
     Outcome {
         why: wire::ACCEPTED,
@@ -252,7 +255,48 @@ fn fetch_gains(out: &mut [u8], data: &[u8], gains: &[u8]) -> usize
     2 * named.count
 }
 
-// An accepted write: into the block and the tables that its command names.
+// An accepted write: what its command stores, and then the mark of the rows that moved.
+fn write(
+    opcode: usize,
+    options: usize,
+    data: &[u8],
+    block: &mut [u8],
+    staged: &mut [u8],
+    live: &mut [u8],
+    gains: &mut [u8],
+)
+    requires { ⌜ WriteGranted 2 opcode options (now «data») (now block) (now staged) (now live) (now gains) ⌝ }
+    ensures { λ _. ⌜ lent (now (block .exit)) (now (staged .exit)) (now (live .exit)) (now (gains .exit))
+        ≡ lentOf (writtenMarked opcode (now («data» .entry))
+        (stateIn (lent (now (block .entry)) (now (staged .entry)) (now (live .entry)) (now (gains .entry))))) ⌝ }
+{
+    store(opcode, options, data, block, staged, live, gains);
+    mark_rows(opcode, data, block, staged, live);
+}
+
+// The mark as the write leaves it: the rows that it works out, in both maps as they are now.
+fn mark_rows(opcode: usize, data: &[u8], block: &mut [u8], staged: &[u8], live: &[u8])
+    requires { ⌜ MarkGranted opcode (now «data») (now block) × (length (now block) ≡ blockSize)
+        × (length (now staged) ≡ mapBytes) × (length (now live) ≡ mapBytes) ⌝ }
+    ensures { λ _. ⌜ now (block .exit) ≡ markedBlock opcode (now («data» .entry)) (now (block .entry))
+        (words (now (staged .entry))) (words (now (live .entry))) ⌝ }
+{
+    let fresh = controller::mark::fresh_rows(opcode, data, block);
+    if !fresh.changes {
+        return;
+    }
+    let mark = rows::bytes::refresh(
+        fresh.mark,
+        fresh.first,
+        fresh.end,
+        fresh.columns,
+        staged,
+        live,
+    );
+    controller::mark::put(block, mark);
+}
+
+// What the command stores: in the block and in the tables that it names.
 fn store(
     opcode: usize,
     options: usize,

@@ -27,6 +27,7 @@ use Rattle.packet.specs.Making.{packetOf}
 use Rattle.packet.proofs.MadeReads.{made-reads}
 use Rattle.controller.specs.State.{State, state, stopped}
 use Rattle.controller.specs.Commands.{third, colourInto, written, blockAfter, runsPast}
+use Rattle.controller.specs.Mark.{markedBlock}
 use Rattle.controller.specs.Step.{Out, out, reads, step}
 use Rattle.controller.proofs.Steps.{decision-number, step-written}
 use Rattle.controller.specs.Calls.{Call, callsOf, stateAfterAll}
@@ -112,7 +113,7 @@ module _ (colour start : ℕ) (ws : List ℕ) (f : Sendable colour start ws) whe
   pub pairs-step : (s : State) (reply : List ℕ) → stopped s reply ≡ false
       → step (pairsPacket colour start ws) s reply
       ≡ out 0 0 0 (state (s .block) (s .staged) (s .live) (colourInto colour start (expand ws) (s .gains))) reply
-  unfolding pairsPacket written blockAfter over
+  unfolding pairsPacket written blockAfter markedBlock over
   pairs-step s reply runs =
       let q = pairs-data colour start ws in
       let m = made-reads 0x2B 0x10 d refl in

@@ -1,13 +1,13 @@
 -- The plan's packets sent to the front end: each is accepted and writes its points, so the staged map goes the way of the judge's map, and
 -- what stands behind it stays.
-use Prim.Native.Nat.{ℕ, _+_, _*_, _≤_}
-use mathlib.Core.Path.{_≡_, refl, sym, ap, _∙_}
+use Prim.Native.Nat.{ℕ, _+_, _-_, _*_, _/_, _≤_, _<_}
+use mathlib.Core.Path.{_≡_, refl, sym, ap, subst, _∙_}
 use mathlib.Core.Bool.{Bool, true, false, and-false}
 use mathlib.Core.List.{List, [], _∷_, _++_, map}
 use native.Mathlib.Omega.{arith}
-use lib.ListN.{length, take, drop, take-append-drop}
+use lib.ListN.{length, take, drop, getD, take-append-drop}
 use lib.Seq.{length-paste, take-at, drop-at}
-use Rattle.wire.specs.Numbers.{wordBytes}
+use Rattle.wire.specs.Numbers.{wordAt, wordBytes}
 use Rattle.wire.specs.Buffers.{over}
 use Rattle.wire.specs.Tables.{bytes}
 use Rattle.wire.proofs.Copies.{paste-front}
@@ -16,16 +16,27 @@ use Rattle.packet.specs.Points.{startOf, pointsOf, acceptedAt, mapAfter}
 use Rattle.packet.proofs.MadeReads.{made-reads}
 use Rattle.controller.specs.State.{State, state, stopped}
 use Rattle.controller.specs.Commands.{points}
+use Rattle.rows.specs.Bits.{bitAt}
+use Rattle.controller.specs.Mark.{marked}
 use Rattle.controller.specs.Step.{Out, out, statusReply, step}
+use Rattle.controller.specs.Writes.{Writes}
+use Rattle.controller.specs.Rows.{markOf, columnsOf, RowRight, TouchedBy, RowsMarked}
+use Rattle.controller.specs.Demands.{LentRight}
 use Rattle.controller.proofs.Bounds.{counts}
-use Rattle.controller.proofs.Demands.{lent}
+use Rattle.controller.proofs.Demands.{lent, running-right, right-running, «runs» as stopped-not}
+use Rattle.controller.proofs.Marks.{AllButMark, mark-alone, front-byte, front-part}
+use Rattle.controller.proofs.Moves.{touched-few}
+use Rattle.controller.proofs.Marking.{rows-marked}
+use Rattle.controller.proofs.InRange.{stays-lent}
 use Rattle.upload.specs.Plan.{Part, planOf, packetFor, packetsOf}
 use Rattle.upload.specs.Judge.{mapsAfter, AllAccepted, MapOf}
 use Rattle.upload.proofs.Reading.{sound}
-use Rattle.upload.proofs.Lists.{demand3}
+use Rattle.upload.specs.Parts.{InOrder}
+use Rattle.upload.proofs.Lists.{demand3, plan-in-order}
+use Rattle.upload.proofs.Bytes.{packet-bytes}
 use Rattle.controller.specs.Calls.{Call, callsOf, stateAfterAll}
-use Rattle.delivery.specs.Delivery.{AllStored, Delivered}
-use Rattle.controller.proofs.Same.{accepted-step}
+use Rattle.delivery.specs.Delivery.{AllStored, TouchedByOne, Delivered}
+use Rattle.controller.proofs.Same.{accepted-step, same-write}
 
 -- ---- A map of n points with more behind it.
 
@@ -62,44 +73,135 @@ front-all n (p ∷ ps) a b l =
 
 data Quiet (n : ℕ) : List (List ℕ) → Type 0 where
   none : Quiet n []
-  next : {p : List ℕ} {ps : List (List ℕ)} → acceptedAt n p ≡ true → headerOf p ≡ 0x14 → Quiet n ps → Quiet n (p ∷ ps)
+  next : {p : List ℕ} {ps : List (List ℕ)} → acceptedAt n p ≡ true → headerOf p ≡ 0x14 → ((k : ℕ) → getD p k 0 < 256) → Quiet n ps → Quiet n (p ∷ ps)
 
-quiet-parts : (n : ℕ) (w : List ℕ) (ps : List Part) → AllAccepted n (map (packetFor w) ps) → Quiet n (map (packetFor w) ps)
+quiet-parts : (n : ℕ) → n ≤ 65536 → (w : List ℕ) → MapOf n w → {i : ℕ} {ps : List Part} → InOrder n i ps → AllAccepted n (map (packetFor w) ps) → Quiet n (map (packetFor w) ps)
 unfolding packetFor
-quiet-parts n w [] AllAccepted.none = Quiet.none
-quiet-parts n w (p ∷ ps) (AllAccepted.next a r) =
+quiet-parts n small w m InOrder.none AllAccepted.none = Quiet.none
+quiet-parts n small w m (InOrder.next {p = p} l f o) (AllAccepted.next a r) =
     let d : List ℕ = wordBytes (p .start) ++ bytes (take (2 * p .count) (drop (2 * p .start) w)) in
-    Quiet.next a (made-reads 0x34 0x10 d refl .header) (quiet-parts n w ps r)
+    Quiet.next a (made-reads 0x34 0x10 d refl .header) (packet-bytes n small w m p f) (quiet-parts n small w m o r)
 
 pub no-reply : (p : List ℕ) → headerOf p ≡ 0x14 → statusReply 0 0 p ≡ []
 unfolding statusReply
 no-reply p h = rw (h, and-false)
 
--- The state that the judge's map stands for.
-abbrev staging : State → List ℕ → State
-staging s m = state (s .block) m (s .live) (s .gains)
+-- ---- One packet.
 
-stopped-staging : (s : State) (reply m : List ℕ) → length m ≡ length (s .staged) → stopped (staging s m) reply ≡ stopped s reply
-unfolding stopped
-stopped-staging s reply m l = rw l
+chain : {a b c : List ℕ} → AllButMark a b → AllButMark b c → AllButMark a c
+chain h k =
+    record {
+      long = k .long ∙ h .long;
+      front = record { each = λ i l. k .front .each i l ∙ h .front .each i l };
+      behind = k .behind ∙ h .behind;
+    }
 
-quiet-step : {n : ℕ} (p : List ℕ) (s : State) (reply : List ℕ) → stopped s reply ≡ false → points (s .block) ≡ n → acceptedAt n p ≡ true
-    → headerOf p ≡ 0x14 → step p s reply ≡ out 0 0 0 (staging s (mapAfter n p (s .staged))) reply
-unfolding over
-quiet-step p s reply runs e a h = rw (← e) (accepted-step p s reply runs (rw e a) ∙ rw (no-reply p h))
+-- The shape stays, and so does which rows a packet touches.
+same-columns : {a b : List ℕ} → AllButMark a b → columnsOf b ≡ columnsOf a
+same-columns k = rw (front-byte k 9 (omega arith), front-byte k 10 (omega arith))
 
--- Each gets the state that the last one left.
-quiet-sent : {n : ℕ} {ps : List (List ℕ)} → Quiet n ps → (s : State) (reply : List ℕ) → stopped s reply ≡ false → points (s .block) ≡ n
-    → (stateAfterAll (callsOf reply ps) s ≡ staging s (mapsAfter n ps (s .staged))) × AllStored (callsOf reply ps) s
+same-points : {a b : List ℕ} → AllButMark a b → points b ≡ points a
+same-points k = rw (front-byte k 9 (omega arith), front-byte k 10 (omega arith), front-byte k 11 (omega arith), front-byte k 12 (omega arith))
+
+module _ {n : ℕ} (p : List ℕ) (bytes : (k : ℕ) → getD p k 0 < 256) (s : State) (reply : List ℕ) (runs : stopped s reply ≡ false) (e : points (s .block) ≡ n)
+    (a : acceptedAt n p ≡ true) (h : headerOf p ≡ 0x14) where
+  -- The state that the judge's map stands for, its rows marked.
+  abbrev left : State
+  left = marked 0x34 (dataOf p) (state (s .block) (mapAfter n p (s .staged)) (s .live) (s .gains))
+
+  quiet-step : step p s reply ≡ out 0 0 0 left reply
+  unfolding over
+  quiet-step = rw (← e) (accepted-step p s reply runs (rw e a) ∙ rw (no-reply p h))
+
+  -- It is an accepted write.
+  writes : Writes 0x34 p (step p s reply)
+  writes = same-write p s reply runs .accepted .0 (rw e a)
+
+  -- It leaves a state in range, of the same shape.
+  next-runs : stopped left reply ≡ false
+  next-runs =
+      let stays = stays-lent p bytes s reply (running-right (lent s reply runs)) in
+      stopped-not left reply (right-running (subst (λ (o : Out). LentRight (o .state) (o .reply)) quiet-step stays))
+
+  alone : AllButMark (s .block) (left .block)
+  alone = mark-alone 0x34 (dataOf p) (s .block) (mapAfter n p (s .staged)) (s .live) (lent s reply runs .tables .block)
+
+  -- And what becomes of its mark.
+  rows : RowsMarked p s (out 0 0 0 left reply)
+  rows = subst (RowsMarked p s) quiet-step (rows-marked p s reply)
+
+  few : (r : ℕ) → TouchedBy (columnsOf (s .block)) p r → r < 32
+  few r t = touched-few p s reply (writes .0) (writes .2) (writes .1) r t
+
+  wrote : Writes 0x34 p (out 0 0 0 left reply)
+  wrote = (refl, writes .1, writes .2)
+
+-- ---- Packets one after another, each on the state that the last one left.
+
+record Sent (n : ℕ) (ps : List (List ℕ)) (s : State) (reply : List ℕ) : Type 0 where
+  staged : stateAfterAll (callsOf reply ps) s .staged ≡ mapsAfter n ps (s .staged)
+  live : stateAfterAll (callsOf reply ps) s .live ≡ s .live
+  gains : stateAfterAll (callsOf reply ps) s .gains ≡ s .gains
+  block : AllButMark (s .block) (stateAfterAll (callsOf reply ps) s .block)
+  stored : AllStored (callsOf reply ps) s
+  row : (r : ℕ) → r < 32 → RowRight s r → RowRight (stateAfterAll (callsOf reply ps) s) r
+  touched : (r : ℕ) → TouchedByOne (columnsOf (s .block)) r ps → RowRight (stateAfterAll (callsOf reply ps) s) r
+  untouched : (r : ℕ) → r < 32 → (TouchedByOne (columnsOf (s .block)) r ps → ⊥)
+      → bitAt (markOf (stateAfterAll (callsOf reply ps) s .block)) r ≡ bitAt (markOf (s .block)) r
+
+no-touch : {columns r : ℕ} → TouchedByOne columns r [] → ⊥
+no-touch t = go t refl
+  where
+    go : {columns r : ℕ} {ps : List (List ℕ)} → TouchedByOne columns r ps → ps ≡ [] → ⊥
+    go (TouchedByOne.here t) e = let z : _≡_ {A = ℕ} 0 1 = cc in omega arith
+    go (TouchedByOne.later t) e = let z : _≡_ {A = ℕ} 0 1 = cc in omega arith
+
+-- A packet of a list, or one behind it.
+touched-here : {G : Type 0} (columns r : ℕ) (p : List ℕ) (ps : List (List ℕ)) → TouchedByOne columns r (p ∷ ps)
+    → (TouchedBy columns p r → G) → (TouchedByOne columns r ps → G) → G
+touched-here columns r p ps (TouchedByOne.here t) f g = f t
+touched-here columns r p ps (TouchedByOne.later t) f g = g t
+
+quiet-sent : {n : ℕ} {ps : List (List ℕ)} → Quiet n ps → (s : State) (reply : List ℕ) → stopped s reply ≡ false → points (s .block) ≡ n → Sent n ps s reply
 unfolding stateAfterAll mapsAfter
-quiet-sent Quiet.none s reply runs e = (refl, AllStored.none)
-quiet-sent {n} (Quiet.next {p} {ps} a h r) s reply runs e =
-    let l = lent s reply runs in
-    let one = quiet-step p s reply runs e a h in
-    let long = long-after n p (s .staged) (omega (arith, l .tables .staged, counts (s .block) (l .settings) .points)) in
-    let rest = quiet-sent r (staging s (mapAfter n p (s .staged))) reply (stopped-staging s reply (mapAfter n p (s .staged)) long ∙ runs) e in
+quiet-sent Quiet.none s reply runs e =
+    record {
+      staged = refl;
+      live = refl;
+      gains = refl;
+      block = record { long = refl; front = record { each = λ k h. refl }; behind = refl };
+      stored = AllStored.none;
+      row = λ r l h. h;
+      touched = λ r t. absurd (no-touch t);
+      untouched = λ r l t. refl;
+    }
+quiet-sent {n} (Quiet.next {p} {ps} a h b q) s reply runs e =
+    let t : State = left p b s reply runs e a h in
+    let one : step p s reply ≡ out 0 0 0 t reply = quiet-step p b s reply runs e a h in
+    let here = alone p b s reply runs e a h in
+    let m = rows p b s reply runs e a h in
+    let w = wrote p b s reply runs e a h in
+    let rest = quiet-sent q t reply (next-runs p b s reply runs e a h) (same-points here ∙ e) in
     let call : Call = record { packet = p; reply = reply } in
-    (ap (λ (o : Out). stateAfterAll (callsOf reply ps) (o .state)) one ∙ rest .0, AllStored.next {x = call} {xs = callsOf reply ps} {s = s} (rw one) (rw one (rest .1)))
+    let all : stateAfterAll (callsOf reply (p ∷ ps)) s ≡ stateAfterAll (callsOf reply ps) t = ap (λ (o : Out). stateAfterAll (callsOf reply ps) (o .state)) one in
+    let columns = same-columns here in
+    record {
+      staged = ap (λ (u : State). u .staged) all ∙ rest .staged;
+      live = ap (λ (u : State). u .live) all ∙ rest .live;
+      gains = ap (λ (u : State). u .gains) all ∙ rest .gains;
+      block = subst (λ (u : State). AllButMark (s .block) (u .block)) (sym all) (chain here (rest .block));
+      stored = AllStored.next {x = call} {xs = callsOf reply ps} {s = s} (rw one) (rw one (rest .stored));
+      row = λ r l right. subst (λ (u : State). RowRight u r) (sym all) (rest .row r l (m .row-right r l right));
+      touched = λ r touch.
+          subst (λ (u : State). RowRight u r) (sym all)
+          (touched-here (columnsOf (s .block)) r p ps touch
+          (λ f. rest .row r (few p b s reply runs e a h r f) (m .touched w r f))
+          (λ f. rest .touched r (subst (λ (c : ℕ). TouchedByOne c r ps) (sym columns) f)));
+      untouched = λ r l off.
+          ap (λ (u : State). bitAt (markOf (u .block)) r) all
+          ∙ rest .untouched r l (λ f. off (TouchedByOne.later (subst (λ (c : ℕ). TouchedByOne c r ps) columns f)))
+          ∙ m .untouched w r l (λ f. off (TouchedByOne.here f));
+    }
 
 -- ---- The plan.
 
@@ -109,16 +211,21 @@ unfolding packetsOf
 delivered n held wanted h w s reply runs e t =
     let d = demand3 n held wanted h w in
     let rest : List ℕ = drop (2 * n) (s .staged) in
-    let all = quiet-sent (quiet-parts n wanted (planOf held wanted) (d .accepted)) s reply runs e in
+    let few : n ≤ 65536 = omega (arith, counts (s .block) (lent s reply runs .settings) .points) in
+    let all = quiet-sent (quiet-parts n few wanted w (plan-in-order n held wanted (h .long) (w .long)) (d .accepted)) s reply runs e in
     let cut : s .staged ≡ held ++ rest = sym (rw t at (take-append-drop (2 * n) (s .staged))) in
     let left : mapsAfter n (packetsOf held wanted) (s .staged) ≡ wanted ++ rest =
     ap (mapsAfter n (packetsOf held wanted)) cut ∙ front-all n (packetsOf held wanted) held rest (h .long) ∙ rw (d .turns) in
-    let staged = ap (λ (s : State). s .staged) (all .0) ∙ left in
+    let staged = all .staged ∙ left in
     record {
       turned = rw staged (take-at wanted rest (2 * n) (w .long));
       behind = rw staged (drop-at wanted rest (2 * n) (w .long));
-      block-kept = ap (λ (s : State). s .block) (all .0);
-      live-kept = ap (λ (s : State). s .live) (all .0);
-      gains-kept = ap (λ (s : State). s .gains) (all .0);
-      taken = all .1;
+      settings-kept = front-part (all .block) 0 865 (omega arith) (omega (arith, lent s reply runs .tables .block));
+      tail-kept = all .block .behind;
+      live-kept = all .live;
+      gains-kept = all .gains;
+      rows-right = all .touched;
+      rows-kept = all .untouched;
+      mark-right = λ right. record { each = λ r l. all .row r l (right .each r l) };
+      taken = all .stored;
     }

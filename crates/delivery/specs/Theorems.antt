@@ -8,7 +8,8 @@ use Rattle.wire.specs.Checksum.{checksum}
 use Rattle.opcode.specs.Options.{hasLength}
 use Rattle.packet.specs.Frame.{headerOf, announced}
 use Rattle.packet.specs.Sound.{Sound}
-use Rattle.controller.specs.State.{State}
+use Rattle.controller.specs.State.{State, resetState}
+use Rattle.controller.specs.Rows.{MarkRight}
 use Rattle.controller.specs.Demands.{LentRight, stagedPoints, LiveKept}
 use Rattle.controller.specs.Calls.{Call, stateAfterAll, NoneApplies}
 use Rattle.upload.specs.Plan.{packetsOf, batchOf, EachAnnounced}
@@ -23,6 +24,9 @@ use Rattle.delivery.specs.Gains.{GainsDelivered}
 pub record Theorems : Type 0 where
   -- Rule 5.6: packets none of which is an accepted apply leave the live side, whatever they are.
   pub live-kept : (xs : List Call) (s : State) → NoneApplies xs s → LiveKept s (stateAfterAll xs s)
+  -- Rule 11.3: packets, whatever they are, leave a right mark right; so from reset on it is always right.
+  pub mark-stays : (xs : List Call) (s : State) → MarkRight s → MarkRight (stateAfterAll xs s)
+  pub mark-from-reset : (xs : List Call) → MarkRight (stateAfterAll xs resetState)
   -- Rule 7.3: a planned upload, sent to a front end whose shape has n points and whose staged map is held, is accepted packet by
   -- packet and leaves wanted.
   pub delivered : (n : ℕ) (held wanted : List ℕ) → MapOf n held → MapOf n wanted → (s : State) (reply : List ℕ) → LentRight s reply

@@ -15,8 +15,8 @@ use Rattle.opcode.specs.Commands.{commandOf}
 use Rattle.wire.proofs.Tests.{and-left, and-right}
 use Rattle.wire.proofs.Copies.{Same, front, part}
 use Rattle.opcode.specs.Fields.{span}
-use Rattle.settings.specs.Ranges.{right, fieldsOf, shapeRight}
-use Rattle.settings.specs.Layout.{shapeSize}
+use Rattle.settings.specs.Ranges.{right, fieldsOf, shapeRight, pictureFields, deviceFields, settingsRight}
+use Rattle.settings.specs.Layout.{shapeSize, stagedShape, enable, liveShape, smoothTable, updatePlace, settingsEnd}
 
 -- Numbers.
 byte-same : {a b : List ℕ} {i j n : ℕ} → Same a i b j n → 1 ≤ n → byteAt a i ≡ byteAt b j
@@ -82,4 +82,17 @@ shape-same h =
       word-same (part h 3 2 (omega arith)) (omega arith),
       words-same 62 (part h 5 124 (omega arith)),
       words-same 32 (part h 129 64 (omega arith)),
+    )
+
+-- Blocks whose settings are equal are in range together.
+pub settings-same : {a b : List ℕ} → Same a 0 b 0 settingsEnd → settingsRight a ≡ settingsRight b
+unfolding settingsRight widths commandOf pictureFields deviceFields
+settings-same h =
+    rw (
+      right-same pictureFields refl (front h (span pictureFields) (omega arith)),
+      shape-same (part h stagedShape shapeSize (omega arith)),
+      right-same (fieldsOf 0x36) refl (part h enable 1 (omega arith)),
+      shape-same (part h liveShape shapeSize (omega arith)),
+      right-same (fieldsOf 0x38) refl (part h smoothTable 2 (omega arith)),
+      right-same deviceFields refl (part h updatePlace (settingsEnd - updatePlace) (omega arith)),
     )

@@ -1,5 +1,5 @@
 -- Rule 4.1, 1: what a stored block holds where refusal 1 does not apply, row by row of the table in docs/LAYOUT.md, and not by way
--- of the test. Bytes that no row names may be anything.
+-- of the test. Bytes that no line here names, those of the row mark among them, may be anything.
 use Prim.Native.Nat.{ℕ, _+_, _*_, _≤_}
 use mathlib.Core.Path.{_≡_}
 use mathlib.Core.List.{List}

@@ -71,9 +71,15 @@ uartCount = 3
 abbrev pub uartSize : ℕ
 uartSize = 10
 
--- Bytes from here on have no meaning.
+-- Here the settings end, and the row mark stands (rule 11.1), in four bytes. Bytes behind it have no meaning.
 abbrev pub settingsEnd : ℕ
 settingsEnd = 865
+
+abbrev pub markPlace : ℕ
+markPlace = settingsEnd
+
+abbrev pub markSize : ℕ
+markSize = 4
 
 -- A command's first stored byte, and the bytes from one pin's or port's to the next one's.
 pub record Place : Type 0 where

@@ -60,7 +60,7 @@ shapeRight block shape =
     && (eqb (modeAt block shape) 0 || (eqb (columnsAt block shape) columnEntries && eqb (rowsAt block shape) rowEntries)))
     && (rising block (columnList shape) columnEntries && rising block (rowList shape) rowEntries)
 
--- Rule 4.1, 1: every stored field in its range. Bytes without a meaning are not judged.
+-- Rule 4.1, 1: every stored field in its range. Neither the row mark nor bytes without a meaning are judged.
 unfoldable pub settingsRight : List ℕ → Bool
 settingsRight block =
     right pictureFields block 0

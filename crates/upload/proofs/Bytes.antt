@@ -49,7 +49,7 @@ below-form s c l h i g (suc (suc (suc (suc (suc (suc k)))))) = g k
 
 -- Up to 65,536 points, of which rule 6.1 takes 1,984.
 module _ (n : ℕ) (small : n ≤ 65536) (wanted : List ℕ) (w : MapOf n wanted) where
-  packet-bytes : (p : Part) → Fits n p → (k : ℕ) → getD (packetFor wanted p) k 0 < 256
+  pub packet-bytes : (p : Part) → Fits n p → (k : ℕ) → getD (packetFor wanted p) k 0 < 256
   packet-bytes p f =
       let pts : List ℕ = take (2 * p .count) (drop (2 * p .start) wanted) in
       let points : (k : ℕ) → getD (bytes pts) k 0 < 256 =

@@ -11,11 +11,14 @@ use Rattle.packet.specs.Making.{Made}
 use Rattle.packet.specs.Promises.{PacketRead, PacketMade}
 use Rattle.packet.proofs.Frames.{refused-some}
 use Rattle.reply.specs.Reading.{ReplyAnswer, replyRefusedBy, ReplyRead}
+use Rattle.controller.specs.Mark.{rowsOut}
+use Rattle.controller.specs.Rows.{RowsPromised}
+use Rattle.controller.proofs.Fresh.{FewRows, told-few}
 use Rattle.controller8.specs.Bytes.{Lent, LentOut, byteLengthsRight, BytesLent, HandledBytes}
 use Rattle.controller8.proofs.Ways.{sized}
 use Rattle.controller8.proofs.Promises.{wrong}
 use Rattle.vermolgas.specs.Packed.{packedReading, readingIn, PackedRead, packedMade, madeIn, PackedMake, packedReply, replyIn, PackedReplyRead}
-use Rattle.vermolgas.specs.Packed.{packedOut, outIn, PackedHandled}
+use Rattle.vermolgas.specs.Packed.{packedOut, outIn, PackedHandled, packedRows, PackedRows}
 
 -- A number's lowest part.
 shed : (low rest : ℕ) {n : ℕ} → low < 256 → n ≡ low + 256 * rest → n % 256 ≡ low
@@ -140,4 +143,23 @@ out-packed p l reply n o e h k f r =
       ten = λ t.
           let status = sym (parts .low) ∙ t in
           rw place (r .numbers (lent-ten l r status) .located .first status);
+    }
+
+-- What is told of the row mark.
+pub rows-packed : (block : List ℕ) (n status count lowest : ℕ) → n ≡ status + 256 * count + 65536 * lowest → RowsPromised block status count lowest
+    → PackedRows block n
+rows-packed block n status count lowest e r =
+    let few : FewRows (rowsOut status count lowest) = subst FewRows (sym (r .outcome)) (told-few block) in
+    let low : n % 256 ≡ status = shed status (count + 256 * lowest) (omega (arith, few .status)) (omega arith) in
+    let from-8 : n / 256 ≡ count + 256 * lowest = omega (arith, few .status) in
+    let second : n / 256 % 256 ≡ count = rw from-8 (shed count lowest (omega (arith, few .count)) (omega arith)) in
+    let from-16 : n / 65536 ≡ lowest = omega (arith, few .status, few .count) in
+    let third : n / 65536 % 256 ≡ lowest = rw from-16 (shed lowest 0 (omega (arith, few .lowest)) (omega arith)) in
+    record {
+      packed = e ∙ ap packedRows (r .outcome);
+      promise = rw (low, second, third) r;
+      told = λ l.
+          let none : status ≡ 0 = r .exactly .1 l in
+          omega (arith, r .marked none, r .lowest-marked none);
+      wrong-length = λ w. omega (arith, r .wrong-length w);
     }

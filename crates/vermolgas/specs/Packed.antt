@@ -3,7 +3,9 @@ use Prim.Native.Nat.{ℕ, _+_, _*_, _/_, _%_}
 use mathlib.Core.Path.{_≡_}
 use mathlib.Core.Bool.{Bool, cond}
 use mathlib.Core.List.{List}
+use lib.ListN.{length}
 use lib.Dec.{eqb}
+use lib.Count.{ones, trailingZeros}
 use Rattle.wire.specs.Tables.{words}
 use Rattle.opcode.specs.Options.{optionsIn}
 use Rattle.opcode.specs.Faults.{FirstFault}
@@ -12,6 +14,8 @@ use Rattle.packet.specs.Reading.{Answer, reading}
 use Rattle.packet.specs.Making.{Made, made}
 use Rattle.packet.specs.Promises.{PacketRead, PacketMade}
 use Rattle.reply.specs.Reading.{ReplyAnswer, replyReading, ReplyRead}
+use Rattle.controller.specs.Mark.{RowsOut, rowsTold}
+use Rattle.controller.specs.Rows.{markOf, RowsPromised}
 use Rattle.controller8.specs.Bytes.{Lent, LentOut, lentOut, stepBytes, BytesLent, HandledBytes}
 use Rattle.compress.specs.Compressing.{CompressOut, compressOut, compressingBytes, CompressedBytes}
 use Rattle.split.specs.Splitting.{SplitOut, splitOut, splitting, SplitBytes}
@@ -90,6 +94,19 @@ pub record PackedHandled (p : List ℕ) (l : Lent) (reply : List ℕ) (answer : 
   pub promise : HandledBytes p l reply (outIn answer left after)
   -- Rule 4.6, of the number itself.
   pub ten : answer % 256 ≡ 10 → FirstFault (opcodeOf p) (optionsOf p) (dataOf p) (answer / 4294967296 % 65536)
+
+-- ---- What is told of the row mark, rule 11.4.
+
+-- Status in bits 0-7, the number of marked rows in 8-15, the lowest of them in 16-23.
+abbrev pub packedRows : RowsOut → ℕ
+packedRows o = o .status + 256 * o .count + 65536 * o .lowest
+
+pub record PackedRows (block : List ℕ) (answer : ℕ) : Type 0 where
+  pub packed : answer ≡ packedRows (rowsTold block)
+  pub promise : RowsPromised block (answer % 256) (answer / 256 % 256) (answer / 65536 % 256)
+  -- Of the number itself: the language's counts of the mark's bits, or 1.
+  pub told : length block ≡ 1024 → answer ≡ 256 * ones (markOf block) + 65536 * trailingZeros 32 (markOf block)
+  pub wrong-length : (length block ≡ 1024 → ⊥) → answer ≡ 1
 
 -- ---- Compressing gains, rule 10.2.
 

@@ -7,7 +7,7 @@ ghost use lib.Dec.{eqb};
 ghost use Rattle.controller8.specs.Bytes.{lent, lentReset, ResetsBytes};
 ghost use Rattle.upload.specs.Planning.{sheets};
 ghost use Rattle.vermolgas.specs.Packed.{PackedRead, PackedMake, PackedReplyRead, PackedHandled};
-ghost use Rattle.vermolgas.specs.Packed.{PackedCompress, PackedSplit, PackedPlan};
+ghost use Rattle.vermolgas.specs.Packed.{PackedRows, PackedCompress, PackedSplit, PackedPlan};
 
 // Puts the block and all tables as they are after reset. The status is 0, or 1 for a wrong length.
 #[no_mangle]
@@ -40,6 +40,15 @@ pub extern "C" fn vermolgas_packet(
 {
     let o = controller8::handle(packet, block, staged, live, gains, reply);
     o.why.number as u64 + 256 * o.size as u64 + 4294967296 * o.why.fault as u64
+}
+
+// How many rows are marked, and the lowest of them, of the mark as it lies.
+#[no_mangle]
+pub extern "C" fn vermolgas_rows(block: &[u8]) -> u64
+    ensures { λ r. ⌜ PackedRows (now (block .entry)) r ⌝ }
+{
+    let r = controller::mark::rows(block);
+    r.status as u64 + 256 * r.count as u64 + 65536 * r.lowest as u64
 }
 
 // Reads a packet.

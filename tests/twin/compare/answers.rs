@@ -3,6 +3,7 @@
 
 use twin::front_end::Answer;
 use twin::refusal::{Refusal, Refused};
+use twin::rows::Rows;
 
 /// The place of a fault stands from this bit on.
 const PLACE: u32 = 32;
@@ -15,6 +16,14 @@ pub fn refused(refused: &Refused) -> u64 {
 /// The answer of `vermolgas_packet`.
 pub fn packet(answer: Answer) -> u64 {
     u64::from(answer.status) | (answer.length as u64) << 8 | u64::from(answer.place) << PLACE
+}
+
+/// The answer of `vermolgas_rows`.
+pub fn rows(rows: Result<Rows, Refusal>) -> u64 {
+    match rows {
+        Ok(rows) => (rows.marked as u64) << 8 | (rows.lowest as u64) << 16,
+        Err(refusal) => refusal.number().into(),
+    }
 }
 
 /// The place that a refusal by 10 names; none for any other answer.

@@ -154,7 +154,7 @@ fn point(random: &mut Random) -> Point {
 }
 
 /// The two lists of 35h.
-fn rising_lists(random: &mut Random) -> Lists {
+pub fn rising_lists(random: &mut Random) -> Lists {
     let (columns, rows) = (rising::<62>(random), rising::<32>(random));
     let mut entries = columns.iter().chain(&rows);
     std::array::from_fn(|_| entries.next().expect("62 and 32 entries").to_le_bytes())

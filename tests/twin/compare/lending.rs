@@ -298,16 +298,16 @@ fn try_entry(session: &mut Session, place: usize, list: &[u16], index: usize) {
     }
 }
 
-/// Bytes without a meaning hold anything, and every packet leaves them so.
+/// Bytes without a meaning hold anything, as the row mark does, and every packet leaves them so.
 pub fn meaningless(session: &mut Session) {
     in_both_modes(session, |session, _, _| {
         for round in 0..20_000 {
             session.fill(Part::Block, block::JUDGED);
-            let held = session.bytes(Part::Block)[block::JUDGED..].to_vec();
+            let held = session.bytes(Part::Block)[block::MEANINGLESS..].to_vec();
             let opcode = Opcode::ALL[round % Opcode::ALL.len()];
             let direction = session.random.pick(&Direction::BOTH);
             accepted(session, opcode, direction, 0x14 | if direction == Direction::Read { 0x80 } else { 0 });
-            let stays = session.bytes(Part::Block)[block::JUDGED..] == held;
+            let stays = session.bytes(Part::Block)[block::MEANINGLESS..] == held;
             session.expect(stays, || format!("{opcode:?} changes bytes without a meaning"));
         }
     });

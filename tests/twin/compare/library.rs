@@ -30,6 +30,7 @@ extern "C" {
         reply: *mut u8,
         reply_length: usize,
     ) -> u64;
+    pub fn vermolgas_rows(block: *const u8, block_length: usize) -> u64;
     pub fn vermolgas_read(packet: *const u8, packet_length: usize) -> u64;
     pub fn vermolgas_make(
         opcode: u16,
@@ -115,6 +116,10 @@ impl Library {
                 gains.0, gains.1, reply.0, reply.1,
             )
         }
+    }
+
+    pub fn rows(self, block: &[u8]) -> u64 {
+        unsafe { vermolgas_rows(self.pointer(block), block.len()) }
     }
 
     pub fn read(self, packet: &[u8]) -> u64 {

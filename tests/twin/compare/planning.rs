@@ -1,13 +1,15 @@
 //! Compares `vermolgas_plan` with the twin: the answer, plan, room, choices and batch in full, and the
 //! bytes around each. Room and choices are held against what they mean, too. Each batch is read by
 //! `vermolgas_read` and, where a shape has so many points, sent through `vermolgas_packet`; it has to
-//! give the wanted map. The seed may be given as the one argument; it and all counts are printed, and
-//! counts that fall short are failures.
+//! give the wanted map, and to mark the rows that moved. The seed may be given as the one argument; it
+//! and all counts are printed, and counts that fall short are failures.
 
 mod covers;
 mod guarded;
 #[allow(dead_code, reason = "each program calls some of the entries")]
 mod library;
+#[allow(dead_code, reason = "an upload has no other packets than its own")]
+mod mark;
 #[allow(dead_code, reason = "each program draws some kinds of numbers")]
 mod random;
 #[allow(dead_code, reason = "each program shows some of its inputs in hex")]

@@ -5,12 +5,16 @@ use twin::command::{Direction, Opcode};
 use twin::front_end::{self, Answer, Lent, GAINS_BYTES, MAP_BYTES};
 use twin::packet::{Header, LONGEST};
 use twin::refusal::Refusal;
+use twin::rows;
 
 use crate::answers;
 use crate::counts::{Accepted, Named, Refusals};
+use crate::guarded::Guarded;
 use crate::library::{Library, LIBRARY};
+use crate::mark;
 use crate::random::Random;
 use crate::report::{hex, Report};
+use crate::row_counts::RowCounts;
 
 /// What is lent, in the order of the arguments.
 #[derive(Clone, Copy, Debug, PartialEq, Eq)]
@@ -75,7 +79,16 @@ impl Side {
 
     /// The block's bytes without a meaning.
     fn meaningless(&self) -> &[u8] {
-        self.0[Part::Block as usize].lent().get(block::JUDGED..).unwrap_or_default()
+        self.0[Part::Block as usize].lent().get(block::MEANINGLESS..).unwrap_or_default()
+    }
+
+    fn mark(&self) -> u32 {
+        mark::of(self.0[Part::Block as usize].lent())
+    }
+
+    fn right_mark(&self) -> u32 {
+        let [block, staged, live, ..] = self.0.each_ref().map(Buffer::lent);
+        mark::right(block, staged, live)
     }
 }
 
@@ -87,6 +100,8 @@ pub struct Session {
     pub named: Named,
     /// How often compressed gains were accepted, by their colour.
     pub compressed: [u64; 4],
+    /// What packets did to the row mark.
+    pub rows: RowCounts,
     /// How the entries are called.
     pub entries: Library,
     twin: Side,
@@ -107,6 +122,7 @@ impl Session {
             refused: Refusals::default(),
             named: Named::default(),
             compressed: [0; 4],
+            rows: RowCounts::default(),
             entries: LIBRARY,
             twin: side.clone(),
             library: side,
@@ -192,6 +208,7 @@ impl Session {
         let changed = self.library.meaningless() != self.twin.meaningless();
         self.expect(!changed, || format!("changes block bytes without a meaning: {}", hex(packet)));
         self.judge_refusal(packet, answer);
+        self.judge_mark(packet, answer);
 
         let (lent, reply) = self.twin.lend();
         let due = front_end::packet(packet, lent, reply);
@@ -240,6 +257,48 @@ impl Session {
         self.expect(right, || {
             format!("answer {answer:#x} with a reply of {length} bytes and other data: {}", hex(packet))
         });
+    }
+
+    /// What the library does to the row mark by itself, told point by point: an accepted packet works out
+    /// the rows that it touches and leaves the others. So a right mark stays right. What is refused changes
+    /// nothing at all.
+    fn judge_mark(&mut self, packet: &[u8], answer: u64) {
+        let lengths_are_right = Part::ALL.into_iter().all(|part| self.bytes(part).len() >= part.length());
+        if answer as u8 != 0 || !lengths_are_right {
+            return;
+        }
+        let [before, after] = [&self.twin, &self.library].map(Side::mark);
+        let touched = mark::touched(packet, self.bytes(Part::Block));
+        if touched == 0 {
+            return self.expect(after == before, || format!("the mark becomes {after:#x}: {}", hex(packet)));
+        }
+        let [right_before, right] = [&self.twin, &self.library].map(Side::right_mark);
+        let due = before & !touched | right & touched;
+        self.expect(after == due, || format!("the mark is {after:#x}, not {due:#x}: {}", hex(packet)));
+        self.expect(before != right_before || after == right, || {
+            format!("the mark was right, and is {after:#x}, not {right:#x}: {}", hex(packet))
+        });
+    }
+
+    /// The row mark, and the one that would be right.
+    pub fn marks(&self) -> [u32; 2] {
+        [self.library.mark(), self.library.right_mark()]
+    }
+
+    /// `vermolgas_rows` on these bytes, which it leaves as they are. The twin looks at row after row; the
+    /// machine's own counts of bits have to give the same.
+    pub fn rows_of(&mut self, bytes: &[u8]) {
+        self.report.inputs += 1;
+        let mut lent = Guarded::of(&mut self.random, &self.filling, bytes);
+        let before = lent.clone();
+        let (answer, due) = (self.entries.rows(lent.lent()), answers::rows(rows::rows(bytes)));
+        self.expect(answer == due, || format!("rows gives {answer:#x}, not {due:#x}: {} bytes", bytes.len()));
+        let mark = (bytes.len() == block::BYTES).then(|| mark::of(bytes));
+        let counted = mark.map_or(1, |mark| mark.count_ones() << 8 | mark.trailing_zeros() << 16);
+        self.expect(answer == counted.into(), || format!("rows gives {answer:#x}, counted {counted:#x}"));
+        if let Some(difference) = lent.difference(&before) {
+            self.expect(false, || format!("rows changes its block: {difference}"));
+        }
     }
 
     fn count(&mut self, packet: &[u8], answer: Answer) {

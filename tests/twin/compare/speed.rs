@@ -1,5 +1,6 @@
 //! Measures the front end: calls a second against the twin, in one run, and the stack that each C
-//! entry needs. From the repository's folder, after `rt staticlib vermolgas`:
+//! entry needs. An entry that needs more of it than docs/INTERFACE.md promises is a failure. From the
+//! repository's folder, after `rt staticlib vermolgas`:
 //!
 //! `cargo run --profile speed --offline --locked --manifest-path tests/twin/Cargo.toml --bin bench_front_end`
 
@@ -49,14 +50,45 @@ fn twin_call(packet: Option<&[u8]>, memory: &mut Memory, reply: &mut [u8; LONGES
     }
 }
 
+/// What is measured: packets sent over and over, none a reset, on what those ahead of them leave.
+struct Case {
+    name: &'static str,
+    ahead: Vec<Vec<u8>>,
+    packets: Vec<Option<Vec<u8>>>,
+}
+
+/// One packet from reset on.
+fn alone(name: &'static str, packet: Vec<u8>) -> Case {
+    Case { name, ahead: vec![], packets: vec![Some(packet)] }
+}
+
 fn main() -> ExitCode {
     let mut random = Random::new(SEED);
     let mixed = mixed::session(&mut random);
+    let cases: Vec<Case> = cases(&mixed, &mut random).into_iter().chain(row_cases(&mut random)).collect();
+    let mut memory = Memory::default();
+    let statuses = mixed.iter().map(|packet| twin_call(Some(packet), &mut memory, &mut [0; LONGEST]) & 0xFF);
+    let accepted = statuses.filter(|status| *status == 0).count();
+    println!("mixed session: {} packets, {accepted} of them accepted", mixed.len());
+    println!("calls a second, in thousands; medians of {REPETITIONS}; above 1 the library is faster");
+    println!("{:<32}{:>10}{:>10}{:>14}", "", "library", "twin", "library/twin");
+    for case in cases {
+        let Some([library, twin, ratio]) = compare(&case) else {
+            println!("{}: the library and the twin differ", case.name);
+            return ExitCode::FAILURE;
+        };
+        println!("{:<32}{:>10.0}{:>10.0}{ratio:>14.2}", case.name, library / 1e3, twin / 1e3);
+    }
+    println!();
+    if stack::report(&mixed) {
+        ExitCode::SUCCESS
+    } else {
+        ExitCode::FAILURE
+    }
+}
+
+fn cases(mixed: &[Vec<u8>], random: &mut Random) -> Vec<Case> {
     let points = [&[7, 0][..], &random.bytes(4 * 126)].concat();
-    let map = packet_of(0x14, Opcode::Map, &points);
-    // The same points with a two-byte opcode and a checksum: 512 bytes, as the reply to the read has.
-    let longest = packet_of(0x3C, Opcode::Map, &points);
-    let asks = packet_of(0xB4, Opcode::Map, &[7, 0, 127, 0]);
     // Refused by 10 for the last of their fields: a source of 2, and a list whose last number is 0.
     let uart = [0x54, 0x6D, 11, 0, 1, 1, 8, 3, 0, 0, 0, 2, 2, 0, 2];
     let mut lists = vec![0x54, 0x35, 189, 0, 1];
@@ -67,55 +99,69 @@ fn main() -> ExitCode {
     let mut large = gains.clone();
     large[0] = 0x54;
     large[LONGEST - 1] = 32;
-    let cases = [
-        ("mixed session", mixed.iter().map(|packet| Some(&packet[..])).collect()),
-        ("11h write", vec![Some(&[0x04, 0x11, 0x01][..])]),
-        ("34h write of 126 points", vec![Some(&map[..])]),
-        ("512 bytes, checksum", vec![Some(&longest[..])]),
-        ("512-byte reply, checksum", vec![Some(&asks[..])]),
-        ("2Bh write of 251 gains", vec![Some(&gains[..])]),
-        ("2Bh refused, reply", vec![Some(&large[..])]),
-        ("6Dh refused, reply", vec![Some(&uart[..])]),
-        ("35h refused, reply", vec![Some(&lists[..])]),
-        ("36h apply", vec![Some(&[0x04, 0x36, 0x01][..])]),
-        ("reset", vec![None]),
-    ];
-    let mut memory = Memory::default();
-    let statuses = mixed.iter().map(|packet| twin_call(Some(packet), &mut memory, &mut [0; LONGEST]) & 0xFF);
-    let accepted = statuses.filter(|status| *status == 0).count();
-    println!("mixed session: {} packets, {accepted} of them accepted", mixed.len());
-    println!("calls a second, in thousands; medians of {REPETITIONS}; above 1 the library is faster");
-    println!("{:<28}{:>10}{:>10}{:>14}", "", "library", "twin", "library/twin");
-    for (name, packets) in cases {
-        let Some([library, twin, ratio]) = compare(&packets) else {
-            println!("{name}: the library and the twin differ");
-            return ExitCode::FAILURE;
-        };
-        println!("{name:<28}{:>10.0}{:>10.0}{ratio:>14.2}", library / 1e3, twin / 1e3);
-    }
-    println!();
-    stack::report(&mixed);
-    ExitCode::SUCCESS
+    let mixed = mixed.iter().cloned().map(Some).collect();
+    vec![
+        Case { name: "mixed session", ahead: vec![], packets: mixed },
+        alone("11h write", vec![0x04, 0x11, 0x01]),
+        alone("34h write of 126 points", packet_of(0x14, Opcode::Map, &points)),
+        // The same points with a two-byte opcode and a checksum: 512 bytes, as the reply to the read has.
+        alone("512 bytes, checksum", packet_of(0x3C, Opcode::Map, &points)),
+        alone("512-byte reply, checksum", packet_of(0xB4, Opcode::Map, &[7, 0, 127, 0])),
+        alone("2Bh write of 251 gains", gains),
+        alone("2Bh refused, reply", large),
+        alone("6Dh refused, reply", uart.to_vec()),
+        alone("35h refused, reply", lists),
+        alone("36h apply", vec![0x04, 0x36, 0x01]),
+        Case { name: "reset", ahead: vec![], packets: vec![None] },
+    ]
+}
+
+/// Writes whose rows are compared with the live ones. Alike are rows that are so up to their last point:
+/// of 126 points from a row's last one on these are four rows, as many as there can be of 62 columns.
+fn row_cases(random: &mut Random) -> Vec<Case> {
+    let mut write = |start: u16, count: usize, alike: bool| {
+        let points = if alike { vec![0; 4 * count] } else { random.bytes(4 * count) };
+        packet_of(0x14, Opcode::Map, &[&start.to_le_bytes()[..], &points].concat())
+    };
+    let shape = |columns: u8| packet_of(0x14, Opcode::ControlPoints, &[0, columns, 0, 32, 0]);
+    let narrow = |name, packet| Case { name, ahead: vec![shape(2)], packets: vec![Some(packet)] };
+    vec![
+        alone("34h, 126 points, rows alike", write(61, 126, true)),
+        alone("34h write of 1 point", write(7, 1, false)),
+        alone("34h, 1 point, row alike", write(7, 1, true)),
+        narrow("34h, 32 rows of 2 points", write(0, 64, false)),
+        narrow("34h, 32 rows of 2, alike", write(0, 64, true)),
+        alone("35h write, rows alike", shape(62)),
+        Case {
+            name: "35h write, one point differs",
+            ahead: vec![write(1000, 1, false)],
+            packets: vec![Some(shape(62))],
+        },
+    ]
 }
 
 /// Calls a second of the library and of the twin, and their ratio, each the median; none if they end
 /// in different states.
-fn compare(packets: &[Option<&[u8]>]) -> Option<[f64; 3]> {
+fn compare(case: &Case) -> Option<[f64; 3]> {
     let (mut library, mut twin) = (Memory::default(), Memory::default());
+    for packet in &case.ahead {
+        library_call(Some(packet), &mut library, &mut [0; LONGEST]);
+        twin_call(Some(packet), &mut twin, &mut [0; LONGEST]);
+    }
     let figures = side_by_side(
-        || calls_a_second(library_call, packets, &mut library),
-        || calls_a_second(twin_call, packets, &mut twin),
+        || calls_a_second(library_call, &case.packets, &mut library),
+        || calls_a_second(twin_call, &case.packets, &mut twin),
     );
     (library == twin).then_some(figures)
 }
 
-fn calls_a_second(call: Call, packets: &[Option<&[u8]>], memory: &mut Memory) -> f64 {
+fn calls_a_second(call: Call, packets: &[Option<Vec<u8>>], memory: &mut Memory) -> f64 {
     let mut reply = [0; LONGEST];
     let rounds = CALLS.div_ceil(packets.len());
     let start = Instant::now();
     for _ in 0..rounds {
         for packet in packets {
-            black_box(call(black_box(*packet), memory, &mut reply));
+            black_box(call(black_box(packet.as_deref()), memory, &mut reply));
         }
     }
     (rounds * packets.len()) as f64 / start.elapsed().as_secs_f64()
@@ -134,6 +180,9 @@ mod stack {
     use twin::splitter;
 
     use crate::library;
+
+    /// Every entry writes less than this (docs/INTERFACE.md).
+    const PROMISED: usize = 1024;
 
     const BYTES: usize = 64 * 1024;
 
@@ -208,9 +257,9 @@ mod stack {
         [bytes.as_mut_ptr() as u64, bytes.len() as u64]
     }
 
-    /// The most that each entry needs over these packets.
-    pub fn report(packets: &[Vec<u8>]) {
-        let [mut reset, mut packet, mut read, mut make, mut read_reply] =
+    /// Prints the most that each entry needs over these packets; whether all keep to what is promised.
+    pub fn report(packets: &[Vec<u8>]) -> bool {
+        let [mut reset, mut packet, mut rows, mut read, mut make, mut read_reply] =
             std::array::from_fn(|_| Painted::new(BYTES));
         let mut memory = Memory::default();
         for bytes in packets {
@@ -237,23 +286,32 @@ mod stack {
         }
         let lent = memory.lend();
         let tables = [lent.block, lent.staged, lent.live, lent.gains].map(slice);
+        rows.call(library::vermolgas_rows as *const (), &tables[0]);
         reset.call(library::vermolgas_reset as *const (), tables.as_flattened());
         let plan = planning();
         let [compress, split] = packing();
 
         println!("stack written by an entry, its return address included, in bytes");
-        for (name, painted) in [
+        let entries = [
             ("vermolgas_reset", reset),
             ("vermolgas_packet", packet),
+            ("vermolgas_rows", rows),
             ("vermolgas_read", read),
             ("vermolgas_make", make),
             ("vermolgas_read_reply", read_reply),
             ("vermolgas_plan", plan),
             ("vermolgas_compress", compress),
             ("vermolgas_split", split),
-        ] {
+        ];
+        for (name, painted) in &entries {
             println!("{name:<28}{:>10}", painted.most);
         }
+        let mut kept = true;
+        for (name, painted) in entries.iter().filter(|(_, painted)| painted.most >= PROMISED) {
+            println!("FAILED {name}: {} bytes of stack, promised are less than {PROMISED}", painted.most);
+            kept = false;
+        }
+        kept
     }
 
     /// A colour's gains compressed and split: all alike, all different.
@@ -294,7 +352,8 @@ mod stack {
 
 #[cfg(not(target_arch = "x86_64"))]
 mod stack {
-    pub fn report(_: &[Vec<u8>]) {
+    pub fn report(_: &[Vec<u8>]) -> bool {
         println!("the stack is measured on x86-64 alone");
+        true
     }
 }

@@ -3,6 +3,7 @@
 use twin::command::{Direction, Opcode};
 use twin::packet::{Header, LONGEST};
 use twin::refusal::Refusal;
+use twin::replay::OPENING;
 use twin::scripts::{hex, SCRIPTS};
 use twin::settings::GAINS;
 
@@ -13,6 +14,7 @@ use crate::lending;
 use crate::recipe::{never_together, Packet, FAULTS};
 use crate::report;
 use crate::session::{Part, Session};
+use crate::session_files;
 
 /// The sessions by hand, each answer and reply as written there.
 pub fn scripts(session: &mut Session) {
@@ -26,6 +28,31 @@ pub fn scripts(session: &mut Session) {
             });
         }
     }
+}
+
+/// The packets of every session file, from reset on: the whole state is the twin's after each, and the row
+/// mark is right.
+pub fn session_files(session: &mut Session) {
+    for file in session_files::all() {
+        session.restart();
+        for packet in records(&file.bytes) {
+            session.send(packet);
+            let [mark, right] = session.marks();
+            session.expect(mark == right, || format!("{}: mark {mark:#x}, not {right:#x}", file.name));
+        }
+    }
+}
+
+/// The packets of a session file's whole records; none if it is no session.
+fn records(file: &[u8]) -> Vec<&[u8]> {
+    let mut rest = file.strip_prefix(&OPENING[..]).unwrap_or_default();
+    let mut packets = Vec::new();
+    while let Some((length, behind)) = rest.split_first_chunk() {
+        let Some((packet, next)) = behind.split_at_checked(u16::from_le_bytes(*length).into()) else { break };
+        packets.push(packet);
+        rest = next;
+    }
+    packets
 }
 
 /// Long sessions from reset: every command in every frame, in any order and accepted, and between
@@ -50,7 +77,7 @@ pub fn sessions(session: &mut Session) {
     }
 }
 
-/// Reset. Half of the time tables and bytes without a meaning then hold anything.
+/// Reset. Half of the time tables, the row mark and bytes without a meaning then hold anything.
 fn start(session: &mut Session) {
     session.restart();
     if session.random.flag() {

@@ -3,6 +3,7 @@
 use std::hint::black_box;
 use std::ops::RangeInclusive;
 
+use twin::block;
 use twin::front_end::{Memory, MAP_BYTES};
 use twin::packet::LONGEST;
 use twin::planner::{
@@ -13,6 +14,7 @@ use twin::settings::{Point, POINTS};
 
 use crate::guarded::Guarded;
 use crate::library::{Library, LIBRARY};
+use crate::mark;
 use crate::random::Random;
 use crate::report::Report;
 use crate::rooms;
@@ -274,8 +276,8 @@ impl Upload {
         });
     }
 
-    /// The packets through the front end, if a shape has so many points: staged is held, and then it
-    /// is wanted, and no other byte is changed.
+    /// The packets through the front end, if a shape has so many points: staged and live are held, and then
+    /// staged is wanted, the rows that moved are marked, and no other byte is changed.
     fn send_all(&mut self, held: &[u8], wanted: &[u8], packets: &[&[u8]]) {
         let Some((columns, rows)) = self.shape(held.len() / 4) else { return };
         let reset = LIBRARY.reset(self.memory.lend());
@@ -285,8 +287,11 @@ impl Upload {
         self.expect((reset, shaped) == (0, 0), || format!("{columns} × {rows}: {reset:#x}, {shaped:#x}"));
         self.memory.staged.copy_from_slice(&self.filling[..MAP_BYTES]);
         self.memory.staged[..held.len()].copy_from_slice(held);
+        self.memory.live.copy_from_slice(&self.memory.staged);
         let mut due = self.memory.clone();
         due.staged[..wanted.len()].copy_from_slice(wanted);
+        let mark = mark::right(&due.block, &due.staged, &due.live);
+        due.block[block::MARK].copy_from_slice(&mark.to_le_bytes());
         for packet in packets {
             let answer = LIBRARY.packet(packet, self.memory.lend(), &mut reply);
             self.expect(answer == 0, || format!("the front end answers {answer:#x}: {columns} × {rows}"));

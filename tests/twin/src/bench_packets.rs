@@ -101,6 +101,7 @@ fn scripts_give_their_answers() {
 fn bench_packets_change_what_they_name() {
     let mut expected = Memory::default();
     expected.staged[4 * 1983..].copy_from_slice(&[1, 0, 2, 0]);
+    expected.block[block::MARK].copy_from_slice(&[0, 0, 0, 0x80]);
     assert_eq!(after(&["14 34 06 00 BF 07 01 00 02 00"]), expected);
     let mut expected = Memory::default();
     expected.gains[2 * 2015..2 * 2016].copy_from_slice(&[0x00, 0x14]);

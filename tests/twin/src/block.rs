@@ -1,7 +1,8 @@
 //! The settings block (docs/LAYOUT.md): 1,024 bytes, lent with each call.
 //!
 //! In opcode order, each command's fields in the order of its write data (without the pin or port
-//! byte). Bytes 865 to 1023 have no meaning.
+//! byte). Behind the settings lies the row mark, which is not judged; the bytes behind that have no
+//! meaning.
 
 use std::ops::Range;
 
@@ -13,8 +14,13 @@ use crate::settings::{
 
 pub const BYTES: usize = 1024;
 
-/// The bytes that have a meaning, and are judged.
+/// The settings' bytes, which are judged.
 pub const JUDGED: usize = 865;
+
+/// The row mark (section 11), 32 bits.
+pub const MARK: Range<usize> = 865..869;
+/// Where the bytes without a meaning begin.
+pub const MEANINGLESS: usize = 869;
 
 pub const DISPLAY: usize = 0;
 pub const LOW_LATENCY: usize = 1;
@@ -56,7 +62,7 @@ fn entry(first: usize, size: usize, index: usize) -> Range<usize> {
     start..start + size
 }
 
-/// Refusal 1 (rule 4.1): each field that has a meaning lies in its range.
+/// Refusal 1 (rule 4.1): each setting lies in its range.
 pub fn judge(block: &[u8; BYTES]) -> Result<(), OutOfRange> {
     let fields = &mut Fields::new(block);
     fields.byte_within(0..=4)?; // display
@@ -123,7 +129,7 @@ impl Settings {
         })
     }
 
-    /// The bytes that have a meaning.
+    /// The bytes that are judged.
     pub fn bytes(&self) -> Vec<u8> {
         let mut bytes = vec![self.display, self.low_latency.into()];
         bytes.extend(self.look.to_le_bytes());

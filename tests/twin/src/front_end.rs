@@ -12,6 +12,7 @@ use crate::fields::{Fields, Word};
 use crate::packet::{self, Header, LONGEST};
 use crate::refusal::{Refusal, Refused};
 use crate::reply;
+use crate::rows;
 use crate::runs;
 use crate::settings::{ControlPoints, Point, Settings, COLUMNS, GAINS, POINTS, PWM_PORTS, ROWS};
 
@@ -139,16 +140,9 @@ impl<'a> State<'a> {
                 let place = place(start, runs::length(pairs), GAINS)?;
                 self.each_colour(target, |gains| runs::expand(pairs, &mut gains[place.clone()]));
             }
-            Write::Map { start, points } => {
-                let place = place(start, points.len(), self.staged_points())?;
-                self.staged[place].copy_from_slice(points);
-            }
-            Write::ControlPoints(written) => write_shape(&mut block[block::STAGED], &written),
-            Write::Apply(true) => {
-                block[block::ENABLE] = 1;
-                block.copy_within(block::STAGED, block::LIVE.start);
-                self.live.copy_from_slice(self.staged);
-            }
+            Write::Map { start, points } => self.write_points(start, points)?,
+            Write::ControlPoints(written) => self.write_shape(&written),
+            Write::Apply(true) => self.apply(),
             Write::Apply(false) => block[block::ENABLE] = 0,
             Write::SmoothTable { columns, rows, points } => {
                 // Rule 5.7: points stored behind these stay.
@@ -164,6 +158,31 @@ impl<'a> State<'a> {
             Write::Uart { port, config } => block[block::uart(port)].copy_from_slice(&config.bytes()),
         }
         Ok(())
+    }
+
+    /// 34h: points, and the marks of the rows that they lie in.
+    fn write_points(&mut self, start: u16, points: &[Point]) -> Result<(), Refusal> {
+        let [columns, rows] = self.staged_shape();
+        let place = place(start, points.len(), columns * rows)?;
+        self.staged[place.clone()].copy_from_slice(points);
+        self.mark_rows(place.start / columns..(place.end - 1) / columns + 1);
+        Ok(())
+    }
+
+    /// 35h: the shape, and the marks of its rows; past the last one no bit is set.
+    fn write_shape(&mut self, written: &ControlPoints) {
+        write_shape(&mut self.block[block::STAGED], written);
+        let [_, rows] = self.staged_shape();
+        self.block[block::MARK].fill(0);
+        self.mark_rows(0..rows);
+    }
+
+    /// 36h with 1 (rule 5.6). Then no row differs.
+    fn apply(&mut self) {
+        self.block[block::ENABLE] = 1;
+        self.block.copy_within(block::STAGED, block::LIVE.start);
+        self.live.copy_from_slice(self.staged);
+        self.block[block::MARK].fill(0);
     }
 
     /// Writes the gains of each colour that is named.
@@ -190,7 +209,8 @@ impl<'a> State<'a> {
                 self.gains[third(colour)][place(start, count.into(), GAINS)?].as_flattened()
             }
             Read::Map { start, count } => {
-                self.staged[place(start, count.into(), self.staged_points())?].as_flattened()
+                let [columns, rows] = self.staged_shape();
+                self.staged[place(start, count.into(), columns * rows)?].as_flattened()
             }
             Read::ControlPoints => return Ok(written_shape(&block[block::STAGED])),
             Read::Apply => byte(block::ENABLE),
@@ -208,10 +228,18 @@ impl<'a> State<'a> {
         Ok([data, &[]])
     }
 
-    /// Columns × rows as staged, which start + count of 34h may not pass (rule 5.4).
-    fn staged_points(&self) -> usize {
+    /// Works the marks of these rows out afresh (rule 11.2).
+    fn mark_rows(&mut self, touched: Range<usize>) {
+        let [columns, _] = self.staged_shape();
+        let before = Fields::new(&self.block[block::MARK]).long();
+        let mark = rows::refreshed(before, touched, columns, self.staged, self.live);
+        self.block[block::MARK].copy_from_slice(&mark.to_le_bytes());
+    }
+
+    /// Columns and rows as staged. Start + count of 34h may not pass columns × rows (rule 5.4).
+    fn staged_shape(&self) -> [usize; 2] {
         let mut fields = Fields::new(&self.block[block::STAGED][1..block::SHAPE_HEAD]);
-        usize::from(fields.word()) * usize::from(fields.word())
+        [fields.word(), fields.word()].map(usize::from)
     }
 }
 

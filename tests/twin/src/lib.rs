@@ -11,6 +11,7 @@
 //! - [`settings`]: the typed settings, their ranges and their values after reset;
 //! - [`block`]: the layout of the settings block, both ways (refusal 1);
 //! - [`front_end`]: one packet on what a host lends (refusals 1 and 12, effects, the reply), and reset;
+//! - [`rows`]: the row mark: which rows differ from the live ones (refusal 1);
 //! - [`runs`]: compressed gains: pairs of a run and a gain, and what they stand for;
 //! - [`compressor`] and [`splitter`]: gains as the fewest pairs, and pairs as packets (refusals 9, 10, 12, 1);
 //! - [`planner`]: upload planning (refusals 10 and 1, plan, room, choices and batch);
@@ -23,6 +24,8 @@ mod bench_gains;
 mod bench_packets;
 #[cfg(test)]
 mod bench_places;
+#[cfg(test)]
+mod bench_rows;
 pub mod block;
 pub mod command;
 pub mod compressor;
@@ -33,6 +36,7 @@ pub mod planner;
 pub mod refusal;
 pub mod replay;
 pub mod reply;
+pub mod rows;
 pub mod runs;
 pub mod scripts;
 pub mod settings;

@@ -316,6 +316,57 @@ pub const SCRIPTS: &[Script] = &[
         ],
     },
     Script {
+        file: "rows",
+        name: "rows that moved: points at the borders of rows, shapes, apply, and refusals between them; its \
+               replies cannot show the mark, which the comparison of session files and the twin's own test of \
+               this script (bench_rows.rs) check",
+        steps: &[
+            // The last point of row 0, the first of row 1, and both equal again.
+            ("54 34 06 00 3D 00 01 00 00 00", 0, "00 00 00"),
+            ("14 34 06 00 3E 00 01 00 00 00", 0, ""),
+            ("54 34 0A 00 3D 00 0000*4", 0, "00 00 00"),
+            // 126 points, from the last of row 3 to the first of row 6; then row 4 equal again.
+            ("14 34 FA 01 F7 00 0100*252", 0, ""),
+            ("54 34 06 00 C0 07 01 00 02 00", 12, "0C 00 00"),
+            ("44 34 F7 00 00 00 00 00", 8, "08 00 00"),
+            ("54 34 FA 00 F8 00 0000*123 00", 4, "04 00 00"),
+            ("54 34 F8 00 F8 00 0000*123", 9, "09 00 00"),
+            ("14 34 FA 00 F8 00 0000*124", 0, ""),
+            // Fewer points, none of which differs; in 8 columns the last of row 3 is in row 30.
+            ("14 35 05 00 00 02 00 02 00", 0, ""),
+            ("84 35", 0, "00 05 00 00 02 00 02 00"),
+            ("14 35 05 00 00 08 00 20 00", 0, ""),
+            ("54 35 05 00 00 08 00 21 00", 10, "0A 02 00 03 00"),
+            ("14 35 BD 00 01 0..61 0..31", 0, ""),
+            ("54 35 BD 00 01 0..61 0..30 30..30", 10, "0A 02 00 BB 00"),
+            ("14 35 05 00 00 02 00 20 00", 0, ""),
+            // All rows at once, and applied.
+            ("14 34 02 01 00 00 0100*128", 0, ""),
+            ("44 36 00", 0, "00 00 00"),
+            ("44 36 02", 10, "0A 02 00 00 00"),
+            ("24 36 01 00", 5, ""),
+            ("84 34 3E 00 02 00", 0, "00 08 00 0100*4"),
+            ("44 36 01", 0, "00 00 00"),
+            // The last row; a point as it is; one that differs and one of the next row that does not.
+            ("14 34 06 00 3F 00 00 00 00 00", 0, ""),
+            ("14 34 06 00 00 00 01 00 01 00", 0, ""),
+            ("14 34 0A 00 01 00 02 00 02 00 01 00 01 00", 0, ""),
+            // In 3 columns: two points of row 1 move, and come back one by one.
+            ("14 35 05 00 00 03 00 03 00", 0, ""),
+            ("54 34 0A 00 08 00 0000*4", 12, "0C 00 00"),
+            ("14 34 06 00 03 00 00 00 00 00", 0, ""),
+            ("14 34 06 00 05 00 00 00 00 00", 0, ""),
+            ("14 34 06 00 03 00 01 00 01 00", 0, ""),
+            ("14 34 06 00 05 00 01 00 01 00", 0, ""),
+            ("14 34 0E 00 05 00 01 00 01 00 02 00 02 00 03 00 03 00", 0, ""),
+            ("04 11 01", 0, ""),
+            ("84 36", 0, "00 01 00 01"),
+            ("04 36 01", 0, ""),
+            ("14 35 05 00 00 3E 00 20 00", 0, ""),
+            ("84 34 00 00 09 00", 0, "00 24 00 0100*2 0200*2 0100*8 0200*2 0300*2 0100*2"),
+        ],
+    },
+    Script {
         file: "pins",
         name: "60h and 61h share a pin's level, stored whatever the direction",
         steps: &[

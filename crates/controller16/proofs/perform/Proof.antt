@@ -57,8 +57,8 @@ returns c =
     let at-start = at-test .before .before .before .before .before .before .before .before in
     answers-read _ _ _ (at-start .pre .0) _ _ _ _ (at-start .pre .1) (at-test .if1 .taken) (at-read .answer-read .ensures)
 
-store-requires : tie.Need-store-requires
-store-requires c κs =
+write-requires : tie.Need-write-requires
+write-requires c κs =
     let at-start = c .before .before .before .before .before .before .before .before .before .before .before .before in
     let l = lent _ _ (at-start .pre .0) in
     record {
@@ -94,7 +94,7 @@ returns-2 c =
     let at-test = at-store .before .before .before .before .before in
     let at-start = at-test .before .before .before .before .before .before .before .before in
     let writes : isRead (at-start .args .options) ≡ 0 = omega (arith, at-test .if1 .left) in
-    stores-write _ _ _ (at-start .pre .0) _ _ _ _ (at-start .pre .1) writes (at-store .store .ensures) (at-reply .acknowledge .ensures)
+    stores-write _ _ _ (at-start .pre .0) _ _ _ _ (at-start .pre .1) writes (at-store .write .ensures) (at-reply .acknowledge .ensures)
 
 pub perform-spec : {M : Type 1} → statement M
 perform-spec =
@@ -110,7 +110,7 @@ perform-spec =
     same-length-3
     same-length-4
     returns
-    store-requires
+    write-requires
     acknowledge-requires
     same-length-5
     same-length-6

@@ -65,8 +65,8 @@ returns c =
     record { staged = λ k. known .before .before .slice-known2 .given k .fits; live = λ k. known .before .slice-known3 .given k .fits; gains = λ k. known .slice-known4 .given k .fits } in
     in-bytes _ _ _ (at-start .pre .0) (unchanged _ (at-start .pre .0) small) (answers-read _ _ _ (at-start .pre .1) _ _ _ _ (at-start .pre .2) (at-test .if1 .taken) (at-read .answer-read .ensures))
 
-store-requires : tie.Need-store-requires
-store-requires c κs =
+write-requires : tie.Need-write-requires
+write-requires c κs =
     let at-start = c .before .before .before .before .before .before .before .before .before .before .before .before in
     let size = sizes at-start in
     record {
@@ -102,7 +102,7 @@ returns-2 c =
     let at-test = at-store .before .before .before .before .before in
     let at-start = at-test .before .before .before .before .before .before .before .before in
     let writes : isRead (at-start .args .options) ≡ 0 = omega (arith, at-test .if1 .left) in
-    in-bytes _ _ _ (at-start .pre .0) (at-store .store .ensures) (stores-write _ _ _ (at-start .pre .1) _ _ _ _ (at-start .pre .2) writes refl (at-reply .acknowledge .ensures))
+    in-bytes _ _ _ (at-start .pre .0) (at-store .write .ensures) (stores-write _ _ _ (at-start .pre .1) _ _ _ _ (at-start .pre .2) writes refl (at-reply .acknowledge .ensures))
 
 pub perform-spec : {M : Type 1} → statement M
 perform-spec =
@@ -118,7 +118,7 @@ perform-spec =
     same-length-3
     same-length-4
     returns
-    store-requires
+    write-requires
     acknowledge-requires
     same-length-5
     same-length-6

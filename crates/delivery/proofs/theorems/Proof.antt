@@ -2,7 +2,9 @@
 use mathlib.Core.Path.{refl}
 use native.Mathlib.Omega.{arith}
 use Rattle.wire.specs.Checksum.{checksum}
-use Rattle.controller.proofs.Demands.{runs, right-running}
+use Rattle.controller.specs.State.{resetState}
+use Rattle.controller.proofs.Demands.{runs, right-running, mark-reset}
+use Rattle.controller.proofs.Marking.{always-right}
 use Rattle.controller.proofs.Live.{live-kept}
 use Rattle.upload.proofs.Announced.{batch-announced}
 use Rattle.upload.proofs.Bytes.{batch-bytes}
@@ -20,6 +22,8 @@ unfolding checksum
 returns c =
     record {
       live-kept = live-kept;
+      mark-stays = always-right;
+      mark-from-reset = λ xs. always-right xs resetState mark-reset;
       delivered = λ n held wanted h w s reply l. delivered n held wanted h w s reply (runs s reply (right-running l));
       runs-counted = length-expand;
       gains-delivered = λ colour start ws f s reply l. gains-delivered colour start ws f s reply (runs s reply (right-running l));
