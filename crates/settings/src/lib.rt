@@ -7,10 +7,10 @@ use limits::*;
 ghost use mathlib.Core.Path.{_≡_};
 ghost use mathlib.Core.Bool.{_&&_, _||_};
 ghost use Prim.Native.Nat.{ℕ, _+_, _*_, _≤_, _<_};
-ghost use lib.Dec.{eqb, leb, ltb};
+ghost use lib.Dec.{eqb, leb};
 ghost use lib.ListN.{length};
 ghost use lib.Seq.{sets};
-ghost use Rattle.wire.specs.Numbers.{byteAt, wordAt};
+ghost use Rattle.wire.specs.Numbers.{byteAt};
 ghost use Rattle.wire.specs.Tables.{bytes};
 ghost use Rattle.opcode.specs.Fields.{from-to, takes};
 ghost use Rattle.settings.specs.Layout.{blockSize, shapeSize, updatePlace, pinPlace, pinCount, pwmPlace, pwmCount};
@@ -107,20 +107,10 @@ fn list_in_range(fine: bool, block: &[u8], at: usize, count: usize) -> bool
     let mut all = fine;
     let mut i = 0;
     while i + 1 < count {
-        all = next_above(all, block, at + 2 * i);
+        all = both(opcode::next_above(block, at + 2 * i), all);
         i += 1;
     }
     all
-}
-
-// Joined to what came before: the 16-bit number behind the one at a place is above it.
-fn next_above(fine: bool, block: &[u8], at: usize) -> bool
-    requires { ⌜ at + 4 ≤ length (now block) ⌝ }
-    ensures { λ r. ⌜ r ≡ (fine && ltb (wordAt (now (block .entry)) at) (wordAt (now (block .entry)) (at + 2))) ⌝ }
-{
-    let v = wire::number(block[at], block[at + 1]);
-    let next = wire::number(block[at + 2], block[at + 3]);
-    if v < next { fine } else { false }
 }
 
 // Update mode, pins, PWM ports, lock and UART ports, from update mode's place on.

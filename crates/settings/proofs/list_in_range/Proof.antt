@@ -1,7 +1,7 @@
 -- The loop keeps what the numbers passed come to, joined to what is still to be judged.
 use Prim.Native.Nat.{_+_, _*_, _-_, _<_}
 use mathlib.Core.Path.{_≡_, sym, _∙_}
-use mathlib.Core.Bool.{_&&_}
+use mathlib.Core.Bool.{_&&_, and-comm}
 use native.Mathlib.Omega.{arith}
 use Rattle.settings.specs.Ranges.{rising}
 use Rattle.settings.proofs.Lists.{rising-turn, rising-done}
@@ -34,6 +34,9 @@ add-next-above c = omega arith
 next-above-requires : tie.Need-next-above-requires Inv-loop μ-loop
 next-above-requires c κs = omega arith
 
+both-requires : tie.Need-both-requires Inv-loop μ-loop
+both-requires c κs = tt
+
 add-i : tie.Need-add-i Inv-loop μ-loop
 add-i c = omega arith
 
@@ -42,12 +45,13 @@ loop-less c = omega arith
 
 loop-again : tie.Need-loop-again Inv-loop μ-loop
 loop-again c =
-    let at-loop = c .before .before in
+    let at-loop = c .before .before .before in
     let args = at-loop .before .before .args in
     let i = at-loop .loop .i in
     let next : args .at + 2 * i + 2 ≡ args .at + 2 * (i + 1) = omega arith in
     let turn = rising-turn (args .block .now) (at-loop .loop .all) i (args .count) (args .at + 2 * i) (omega arith) in
-    (omega arith, rw (c .next-above .ensures, ← next) (at-loop .loop .inv .1 ∙ turn))
+    let joined = c .both .ensures ∙ and-comm (c .before .next-above .result) (at-loop .loop .all) in
+    (omega arith, rw (joined, c .before .next-above .ensures, ← next) (at-loop .loop .inv .1 ∙ turn))
 
 returns : tie.Need-returns Inv-loop μ-loop
 returns c =
@@ -68,6 +72,7 @@ list-in-range-spec =
     mul-next-above
     add-next-above
     next-above-requires
+    both-requires
     add-i
     loop-less
     loop-again
