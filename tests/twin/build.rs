@@ -1,17 +1,24 @@
-//! Links the programs that call the C entries with libvermolgas.a, from the folder in VERMOLGAS_LIB or
-//! where `rt staticlib vermolgas` writes it. The others are built without it.
+//! Links the programs that call C entries, each with the library whose entries it calls, from the folder
+//! in VERMOLGAS_LIB or where `rt staticlib` writes it. The others are built without one.
 
 use std::env;
 use std::path::PathBuf;
 
-const CALLERS: [&str; 7] = [
-    "compare_packets",
-    "compare_sessions",
-    "compare_planning",
-    "compare_gains",
-    "bench_front_end",
-    "bench_planning",
-    "bench_gains",
+/// The libraries, and who calls them.
+const CALLERS: [(&str, &[&str]); 2] = [
+    (
+        "libvermolgas.a",
+        &[
+            "compare_packets",
+            "compare_sessions",
+            "compare_planning",
+            "compare_gains",
+            "bench_front_end",
+            "bench_planning",
+            "bench_gains",
+        ],
+    ),
+    ("librising.a", &["compare_rising", "bench_rising"]),
 ];
 
 fn main() {
@@ -19,10 +26,12 @@ fn main() {
         || PathBuf::from(env::var_os("CARGO_MANIFEST_DIR").unwrap()).join("../../target/staticlib"),
         PathBuf::from,
     );
-    let library = folder.join("libvermolgas.a");
     println!("cargo:rerun-if-env-changed=VERMOLGAS_LIB");
-    println!("cargo:rerun-if-changed={}", library.display());
-    for caller in CALLERS {
-        println!("cargo:rustc-link-arg-bin={caller}={}", library.display());
+    for (name, callers) in CALLERS {
+        let library = folder.join(name);
+        println!("cargo:rerun-if-changed={}", library.display());
+        for caller in callers {
+            println!("cargo:rustc-link-arg-bin={caller}={}", library.display());
+        }
     }
 }

@@ -1,4 +1,4 @@
--- What the loops keep: fields and words are passed one at a time.
+-- What the loops keep: fields are passed one at a time, numbers of a list one or a stretch of them.
 use Prim.Native.Nat.{ℕ, zero, suc, _+_, _*_, _-_, _≤_, _<_}
 use mathlib.Core.Path.{_≡_, refl, sym, ap, _∙_}
 use mathlib.Core.Bool.{Bool, true, false}
@@ -13,53 +13,91 @@ use lib.Seq.{drop-cons}
 use Rattle.wire.specs.Numbers.{wordAt}
 use Rattle.opcode.specs.declared.Field.{Field}
 use Rattle.opcode.specs.Fields.{span, fault, takes, number, wordsAt, rise, riseFrom}
-use Rattle.opcode.specs.Internal.{sent}
+use Rattle.opcode.specs.Internal.{sent, RisenTo}
 use Rattle.opcode.proofs.Accepts.Fields.{least}
 use Rattle.opcode.proofs.Accepts.Commands.{asks-sized, sets-sized}
 
--- Words, from the i-th on: all of them, one that is passed, and the end. Then how far
--- they rise (rule 5.5).
-module _ (s : List ℕ) (at count : ℕ) where
-  pub words-start : wordsAt s (at + 2 * 0) (count - 0) ≡ wordsAt s at count
-  words-start =
+-- How far m numbers from a place on rise (rule 5.5): the end; past one of them, or not; of the first k + 1 of them, whose fault is that of all, or which
+-- rise, so that the count goes on from the last.
+module _ (d : List ℕ) where
+  rise-end : (at m : ℕ) → m ≤ 1 → rise (wordsAt d at m) ≡ m
+  unfolding wordsAt rise riseFrom
+  rise-end at zero h = refl
+  rise-end at (suc zero) h = refl
+  rise-end at (suc (suc n)) h = absurd (omega arith)
+
+  rise-up : (at m : ℕ) → 1 < m → wordAt d at < wordAt d (at + 2) → rise (wordsAt d at m) ≡ 1 + rise (wordsAt d (at + 2) (m - 1))
+  unfolding wordsAt rise riseFrom
+  rise-up at zero h l = absurd (omega arith)
+  rise-up at (suc zero) h l = absurd (omega arith)
+  rise-up at (suc (suc n)) h l = let left : suc (suc n) - 1 ≡ suc n = omega arith in rw (lt-ltb _ _ l, left) (omega arith)
+
+  rise-down : (at m : ℕ) → 1 < m → wordAt d (at + 2) ≤ wordAt d at → rise (wordsAt d at m) ≡ 1
+  unfolding wordsAt rise riseFrom
+  rise-down at zero h l = absurd (omega arith)
+  rise-down at (suc zero) h l = absurd (omega arith)
+  rise-down at (suc (suc n)) h l = rw (le-ltb _ _ l)
+
+  up-first : (k at : ℕ) → wordAt d at < wordAt d (at + 2) → rise (wordsAt d at (suc (suc k))) ≡ 1 + rise (wordsAt d (at + 2) (suc k))
+  up-first k at l =
+      let left : suc (suc k) - 1 ≡ suc k = omega arith in
+      rw left at (rise-up at (suc (suc k)) (omega arith) l)
+
+  rise-here : (k at m : ℕ) → k < m → rise (wordsAt d at (suc k)) ≤ k → rise (wordsAt d at m) ≡ rise (wordsAt d at (suc k))
+  rise-here zero at m h e = absurd (omega (arith, rise-end at 1 (omega arith)))
+  rise-here (suc k) at m h e =
+      elim (decLt (wordAt d at) (wordAt d (at + 2))) [
+        | yes l ↦
+            let first = up-first k at l in
+            omega (arith, rise-up at m (omega arith) l, rise-here k (at + 2) (m - 1) (omega arith) (omega arith))
+        | no l ↦ omega (arith, rise-down at m (omega arith) (omega arith), rise-down at (suc (suc k)) (omega arith) (omega arith))
+      ]
+
+  rise-past : (k at m : ℕ) → k < m → k < rise (wordsAt d at (suc k)) → rise (wordsAt d at m) ≡ k + rise (wordsAt d (at + 2 * k) (m - k))
+  rise-past zero at m h e =
+      let here : at + 2 * 0 ≡ at = omega arith in
+      let all : m - 0 ≡ m = omega arith in
+      rw (here, all) (omega arith)
+  rise-past (suc k) at m h e =
+      let here : at + 2 * suc k ≡ at + 2 + 2 * k = omega arith in
+      let left : m - suc k ≡ m - 1 - k = omega arith in
+      elim (decLt (wordAt d at) (wordAt d (at + 2))) [
+        | yes l ↦
+            let first = up-first k at l in
+            rw (here, left) (omega (arith, rise-up at m (omega arith) l, rise-past k (at + 2) (m - 1) (omega arith) (omega arith)))
+        | no l ↦ absurd (omega (arith, rise-down at (suc (suc k)) (omega arith) (omega arith)))
+      ]
+
+-- The same for count numbers that are known to rise up to the i-th: none is left, the next one is not above it or is passed; a stretch of k steps has the fault, or is passed.
+module _ (d : List ℕ) (at count : ℕ) where
+  pub risen-start : RisenTo d at count 0
+  risen-start =
       let here : at + 2 * 0 ≡ at = omega arith in
       let all : count - 0 ≡ count = omega arith in
-      rw (here, all)
+      (omega arith, rw (here, all) (omega arith))
 
-  module _ (i : ℕ) where
-    pub words-turn : i < count
-        → wordsAt s (at + 2 * i) (count - i) ≡ wordAt s (at + 2 * i) ∷ wordsAt s (at + 2 * (i + 1)) (count - (i + 1))
-    unfolding wordsAt
-    words-turn h =
-        let left : count - i ≡ suc (count - (i + 1)) = omega arith in
-        let next : at + 2 * (i + 1) ≡ at + 2 * i + 2 = omega arith in
-        rw (left, next)
+  module _ (i : ℕ) (to : RisenTo d at count i) where
+    pub risen-end : count ≤ i + 1 → rise (wordsAt d at count) ≡ count
+    risen-end h = omega (arith, rise-end d (at + 2 * i) (count - i) (omega arith))
 
-    pub words-done : count ≤ i → wordsAt s (at + 2 * i) (count - i) ≡ []
-    unfolding wordsAt
-    words-done h = let left : count - i ≡ 0 = omega arith in rw left
+    pub risen-down : i + 1 < count → wordAt d (at + 2 * i + 2) ≤ wordAt d (at + 2 * i) → rise (wordsAt d at count) ≡ i + 1
+    risen-down h l = omega (arith, rise-down d (at + 2 * i) (count - i) (omega arith) l)
 
-    pub rise-turn : (last : ℕ) → i < count → last < wordAt s (at + 2 * i)
-        → riseFrom last (wordsAt s (at + 2 * i) (count - i))
-        ≡ suc (riseFrom (wordAt s (at + 2 * i)) (wordsAt s (at + 2 * (i + 1)) (count - (i + 1))))
-    unfolding riseFrom
-    rise-turn last h w = rw (words-turn h, lt-ltb _ _ w)
+    pub risen-up : i + 1 < count → wordAt d (at + 2 * i) < wordAt d (at + 2 * i + 2) → RisenTo d at count (i + 1)
+    risen-up h l =
+        let here : at + 2 * (i + 1) ≡ at + 2 * i + 2 = omega arith in
+        let left : count - (i + 1) ≡ count - i - 1 = omega arith in
+        (omega arith, rw (here, left) (omega (arith, rise-up d (at + 2 * i) (count - i) (omega arith) l)))
 
-    pub rise-stop : (last : ℕ) → i < count → wordAt s (at + 2 * i) ≤ last → riseFrom last (wordsAt s (at + 2 * i) (count - i)) ≡ 0
-    unfolding riseFrom
-    rise-stop last h w = rw (words-turn h, le-ltb _ _ w)
+    module _ (k : ℕ) (more : i + k < count) where
+      pub risen-here : rise (wordsAt d (at + 2 * i) (suc k)) ≤ k → rise (wordsAt d at count) ≡ i + rise (wordsAt d (at + 2 * i) (suc k))
+      risen-here l = omega (arith, rise-here d k (at + 2 * i) (count - i) (omega arith) l)
 
-    pub rise-done : (last : ℕ) → count ≤ i → riseFrom last (wordsAt s (at + 2 * i) (count - i)) ≡ 0
-    unfolding riseFrom
-    rise-done last h = rw (words-done h)
-
-  pub rise-none : count ≡ 0 → rise (wordsAt s at count) ≡ 0
-  unfolding wordsAt rise
-  rise-none e = rw e
-
-  pub rise-start : 0 < count → rise (wordsAt s at count) ≡ suc (riseFrom (wordAt s at) (wordsAt s (at + 2 * 1) (count - 1)))
-  unfolding rise
-  rise-start h = let here : at + 2 * 0 ≡ at = omega arith in rw (← words-start, words-turn 0 h, here)
+      pub risen-past : k < rise (wordsAt d (at + 2 * i) (suc k)) → RisenTo d at count (i + k)
+      risen-past l =
+          let here : at + 2 * (i + k) ≡ at + 2 * i + 2 * k = omega arith in
+          let left : count - (i + k) ≡ count - i - k = omega arith in
+          (omega arith, rw (here, left) (omega (arith, rise-past d k (at + 2 * i) (count - i) (omega arith) l)))
 
 -- Fields, from the k-th on: each has bytes, and they end where their bytes do.
 sent-sized : (op : ℕ) (reads : Bool) → 0 < least (sent op reads)

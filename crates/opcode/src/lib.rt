@@ -9,6 +9,7 @@ mod opcodes;
 pub use judgement::in_pairs;
 pub use judgement::judge;
 pub use lists::next_above;
+pub use lists::rise;
 pub use opcodes::row_at;
 
 // A field of a command's data: its bytes, and the numbers it takes, from low to high but for those from gap up to past.

@@ -1,7 +1,7 @@
 -- The test of the block holds exactly if every setting is as it may be: a list, a shape at a place, a run of equal parts, and then all of
 -- the table's rows.
 use Prim.Native.Nat.{ℕ, zero, suc, _+_, _*_, _≤_, _<_}
-use mathlib.Core.Path.{_≡_, refl}
+use mathlib.Core.Path.{_≡_, refl, sym, _∙_}
 use mathlib.Core.Logic.{_↔_}
 use mathlib.Core.Bool.{Bool, true, _&&_, _||_}
 use mathlib.Core.List.{List, [], _∷_}
@@ -16,13 +16,13 @@ use Rattle.opcode.specs.declared.Field.{Field}
 use Rattle.opcode.specs.Fields.{from-to-but, wordsAt, rise}
 use Rattle.opcode.specs.Commands.{commandOf}
 use Rattle.opcode.specs.Allowed.{Rising}
-use Rattle.wire.proofs.Tests.{told}
+use Rattle.wire.proofs.Tests.{told, and-right}
 use Rattle.opcode.proofs.Accepts.Fields.{Within, All, span, least}
 use Rattle.opcode.proofs.Accepts.Lists.{words-part, length-wordsAt, rising-rise, rise-rising}
 use Rattle.settings.specs.Layout.{blockSize, enable, liveShape, lockPlace, pinCount, pinPlace, pwmCount, pwmPlace, shapeSize, smoothTable, stagedShape, uartCount, uartPlace, updatePlace}
 use Rattle.settings.specs.Layout.{modeAt, columnsAt, rowsAt}
 use Rattle.settings.specs.Allowed.{CurtainColour, ShapeCounts, ShapeAllowed, PinAllowed, PwmAllowed, UartAllowed, SettingsAllowed}
-use Rattle.settings.specs.Ranges.{right, fieldsOf, behindPort, forEach, updateMode, pictureFields, rising, shapeRight, settingsRight, InRange}
+use Rattle.settings.specs.Ranges.{right, fieldsOf, behindPort, forEach, updateMode, pictureFields, rising, listsRise, shapeRight, settingsRight, InRange}
 use Rattle.settings.specs.Reset.{resetShape, resetBlock}
 use Rattle.settings.proofs.Laws.{right-append, device-runs}
 use Rattle.settings.proofs.Stays.{Parts, parts, whole, all-right, right-all, reset-right}
@@ -191,9 +191,20 @@ allowed-parts b e s =
 pub settings-exactly : (b : List ℕ) → length b ≡ blockSize → (settingsRight b ≡ true) ↔ SettingsAllowed b
 settings-exactly b e = (λ t. parts-allowed b e (parts b t), λ s. whole b (allowed-parts b e s))
 
+-- A shape's test has that of its lists behind the others.
+lists-of : (b : List ℕ) (at : ℕ) → shapeRight b at ≡ true → listsRise b at ≡ true
+unfolding shapeRight
+lists-of b at t =
+    and-right (right (fieldsOf 0x35) b at && (eqb (modeAt b at) 0 || (eqb (columnsAt b at) 62 && eqb (rowsAt b at) 32))) (listsRise b at) t
+
 -- What the test's answer promises.
 pub in-range : (b : List ℕ) → length b ≡ blockSize → (r : Bool) → r ≡ settingsRight b → InRange b r
-in-range b e r t = record { test = t; exactly = rw t (settings-exactly b e) }
+in-range b e r t =
+    record {
+      test = t;
+      exactly = rw t (settings-exactly b e);
+      lists = λ h. let p = parts b (sym t ∙ h) in (lists-of b stagedShape (p .staged), lists-of b liveShape (p .live));
+    }
 
 pub reset-allowed : SettingsAllowed resetBlock
 unfolding resetBlock resetShape

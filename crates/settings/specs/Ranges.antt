@@ -52,13 +52,17 @@ right (f ∷ fs) block place = takes f (number (f .size) block place) && right f
 abbrev pub rising : List ℕ → ℕ → ℕ → Bool
 rising block place n = eqb (rise (wordsAt block place n)) n
 
+-- Rule 5.5: both lists of a shape at a place rise.
+abbrev pub listsRise : List ℕ → ℕ → Bool
+listsRise block shape = rising block (columnList shape) columnEntries && rising block (rowList shape) rowEntries
+
 -- Rule 4.1, 1: a shape at a place: mode 0 with 2-62 columns and 2-32 rows, or mode 1 with exactly 62 and 32; and in either mode
 -- both lists rising. No single write carries all of it.
 unfoldable pub shapeRight : List ℕ → ℕ → Bool
 shapeRight block shape =
     (right (fieldsOf 0x35) block shape
     && (eqb (modeAt block shape) 0 || (eqb (columnsAt block shape) columnEntries && eqb (rowsAt block shape) rowEntries)))
-    && (rising block (columnList shape) columnEntries && rising block (rowList shape) rowEntries)
+    && listsRise block shape
 
 -- Rule 4.1, 1: every stored field in its range. Neither the row mark nor bytes without a meaning are judged.
 unfoldable pub settingsRight : List ℕ → Bool
@@ -74,3 +78,5 @@ settingsRight block =
 pub record InRange (block : List ℕ) (r : Bool) : Type 0 where
   pub test : r ≡ settingsRight block
   pub exactly : (r ≡ true) ↔ SettingsAllowed block
+  -- The lists' own test is part of it, of both shapes.
+  pub lists : r ≡ true → (listsRise block stagedShape ≡ true) × (listsRise block liveShape ≡ true)

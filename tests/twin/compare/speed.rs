@@ -89,10 +89,8 @@ fn main() -> ExitCode {
 
 fn cases(mixed: &[Vec<u8>], random: &mut Random) -> Vec<Case> {
     let points = [&[7, 0][..], &random.bytes(4 * 126)].concat();
-    // Refused by 10 for the last of their fields: a source of 2, and a list whose last number is 0.
+    // Refused by 10 for its last field, a source of 2.
     let uart = [0x54, 0x6D, 11, 0, 1, 1, 8, 3, 0, 0, 0, 2, 2, 0, 2];
-    let mut lists = vec![0x54, 0x35, 189, 0, 1];
-    lists.extend((0..62).chain(0..31).chain([0]).flat_map(u16::to_le_bytes));
     // As many gains as a packet takes; and the same with the last one too large.
     let words = [&[0, 1, 251, 0, 0, 0][..], &[0, 16].repeat(251)].concat();
     let gains = packet_of(0x14, Opcode::Gains, &words);
@@ -110,10 +108,20 @@ fn cases(mixed: &[Vec<u8>], random: &mut Random) -> Vec<Case> {
         alone("2Bh write of 251 gains", gains),
         alone("2Bh refused, reply", large),
         alone("6Dh refused, reply", uart.to_vec()),
-        alone("35h refused, reply", lists),
+        alone("35h refused, reply", lists(93)),
+        alone("35h refused at once, reply", lists(1)),
+        alone("35h write of lists, reply", lists(0)),
         alone("36h apply", vec![0x04, 0x36, 0x01]),
         Case { name: "reset", ahead: vec![], packets: vec![None] },
     ]
+}
+
+/// A 35h write of two lists that count from 0, but for an entry that is 0; with the first one they rise.
+fn lists(zero: usize) -> Vec<u8> {
+    let mut entries: Vec<u16> = (0..62).chain(0..32).collect();
+    entries[zero] = 0;
+    let lists = entries.into_iter().flat_map(u16::to_le_bytes);
+    [0x54, 0x35, 189, 0, 1].into_iter().chain(lists).collect()
 }
 
 /// Writes whose rows are compared with the live ones. Alike are rows that are so up to their last point:

@@ -1,6 +1,6 @@
 //! Where a packet's fault is, by hand, on the twin itself.
 
-use crate::command::Opcode;
+use crate::command::{judge_lists, Opcode};
 use crate::front_end::{self, Answer, Memory};
 use crate::packet::{self, Header};
 use crate::refusal::{Refusal, Refused};
@@ -101,6 +101,52 @@ fn entries_of_lists() {
             assert_eq!(refused(&packet(&entries)), at(1 + 2 * place), "entry {place}");
         }
     }
+}
+
+/// The refusal of lists alone, the same as of the write that has them.
+fn refused_alone(lists: &[u8]) -> Option<Refused> {
+    let alone = judge_lists(lists).err();
+    let write = write(Opcode::ControlPoints, &[&[1], lists].concat());
+    assert_eq!(alone, refused(&write), "{lists:02X?}");
+    alone
+}
+
+#[test]
+fn entries_of_lists_alone() {
+    let rising: Vec<u16> = (500..562).chain(500..532).collect();
+    assert_eq!(refused_alone(&bytes(&rising)), None);
+    for place in (1..62).chain(63..94) {
+        for below in [0, 1, 256, 499] {
+            let mut entries = rising.clone();
+            entries[place] = entries[place - 1] - below;
+            assert_eq!(refused_alone(&bytes(&entries)), at(1 + 2 * place), "entry {place}");
+            // What is wrong further on doesn't count.
+            entries[93] = 0;
+            assert_eq!(refused_alone(&bytes(&entries)), at(1 + 2 * place), "entry {place}");
+        }
+    }
+}
+
+#[test]
+fn border_of_lists_alone() {
+    for first_row in [0, 60, 61, 62, 65_504] {
+        let entries: Vec<u16> = (0..62).chain((0..32).map(|row| first_row + row)).collect();
+        assert_eq!(refused_alone(&bytes(&entries)), None, "rows from {first_row} on");
+    }
+    let falling: Vec<u16> = (0..94).rev().collect();
+    assert_eq!(refused_alone(&bytes(&falling)), at(3));
+}
+
+#[test]
+fn sizes_of_lists_alone() {
+    let rising: Vec<u8> = bytes(&Vec::from_iter(0..200));
+    for size in (0..=rising.len()).filter(|size| *size != 188) {
+        let due = Some(Refused { refusal: Refusal::Size, place: 0 });
+        assert_eq!(refused_alone(&rising[..size]), due, "{size} bytes");
+        assert_eq!(refused_alone(&vec![0; size]), due, "{size} bytes");
+    }
+    assert_eq!(refused_alone(&rising[..188]), None);
+    assert_eq!(refused_alone(&[0; 188]), at(3));
 }
 
 #[test]

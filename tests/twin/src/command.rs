@@ -3,7 +3,9 @@
 use crate::fields::{Fields, OutOfRange, Word};
 use crate::refusal::{Refusal, Refused};
 use crate::runs::{self, Pair};
-use crate::settings::{curtain_colour, ControlPoints, Pin, Point, Pwm, Uart, PINS, PWM_PORTS, UARTS};
+use crate::settings::{
+    curtain_colour, rising, ControlPoints, Lists, Pin, Point, Pwm, Uart, PINS, PWM_PORTS, UARTS,
+};
 
 /// Bit 7 of the header.
 #[derive(Clone, Copy, Debug, PartialEq, Eq)]
@@ -462,6 +464,18 @@ impl<'a> Command<'a> {
             Command::Read(read) => read.data(),
         }
     }
+}
+
+/// The bytes ahead of the lists in the data of a 35h write: its mode.
+const AHEAD_OF_LISTS: usize = 1;
+
+/// The two lists of 35h alone: refusals 9 and 10 as of a write of mode 1 that has them, and the place of
+/// a fault is the one in that write's data. This is measured as one call, hence the inlining.
+#[inline]
+pub fn judge_lists(lists: &[u8]) -> Result<(), Refused> {
+    let mut fields = sized(lists, size_of::<Lists>())?;
+    rising(fields.array()).map_err(|fault| fault.behind(AHEAD_OF_LISTS))?;
+    Ok(())
 }
 
 /// The fields of data of exactly this size; any other size is refusal 9.

@@ -27,7 +27,8 @@ pub type Point = [u8; 4];
 pub type Lists = [Word; COLUMNS + ROWS];
 
 /// Rule 5.5: both lists rise strictly. At fault is the first entry no greater than its predecessor; the
-/// first entry of each list has none.
+/// first entry of each list has none. This is measured alone, too, as one call, hence the inlining.
+#[inline]
 pub fn rising(lists: &Lists) -> Result<&Lists, OutOfRange> {
     let (columns, rows) = lists.split_at(COLUMNS);
     match first_fall(columns).or_else(|| Some(COLUMNS + first_fall(rows)?)) {

@@ -1,0 +1,2 @@
+-- The rising test of 35h, called alone.
+pub mod Alone
