@@ -5,3 +5,4 @@ pub mod Accepts
 pub mod Below
 pub mod Faults
 pub mod Numbers
+pub mod Plain

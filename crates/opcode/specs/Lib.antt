@@ -7,3 +7,4 @@ pub mod Allowed
 pub mod Faults
 pub mod Numbers
 pub mod Internal
+pub mod Plain

@@ -2,3 +2,4 @@ pub mod Walk
 pub mod Places
 pub mod Right
 pub mod Expand
+pub mod Plain

@@ -3,3 +3,4 @@ pub mod Copies
 pub mod Laws
 pub mod Tables
 pub mod Tests
+pub mod Plain

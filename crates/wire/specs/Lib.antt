@@ -4,3 +4,4 @@ pub mod Tables
 pub mod Checksum
 pub mod First
 pub mod Buffers
+pub mod Plain
