@@ -67,7 +67,7 @@ module _ {op o : ℕ} {d : List ℕ} (b : (k : ℕ) → getD d k 0 < 256) (size 
 not-lower : {op o : ℕ} {d : List ℕ} {j k : ℕ} → FirstFault op o d j → FirstFault op o d k → j < k → ⊥
 not-lower p q h = let right = q .before h (p .field) in ⊎-elim (λ l. omega arith) (λ l. omega arith) (p .out)
 
-only-one : {op o : ℕ} {d : List ℕ} {j k : ℕ} → FirstFault op o d j → FirstFault op o d k → j ≡ k
+pub only-one : {op o : ℕ} {d : List ℕ} {j k : ℕ} → FirstFault op o d j → FirstFault op o d k → j ≡ k
 only-one {j = j} {k = k} p q =
     elim (decLt j k) [
       | yes h ↦ absurd (not-lower p q h)

@@ -2,24 +2,22 @@
 -- false, and that of the judgement is what `Allowed` says.
 use Prim.Native.Nat.{ℕ, zero, suc, _<_}
 use mathlib.Core.Path.{_≡_, refl, _∙_, sym}
-use mathlib.Core.Logic.{_↔_, _⊎_}
-use mathlib.Core.Bool.{Bool, false}
+use mathlib.Core.Logic.{_↔_}
+use mathlib.Core.Bool.{Bool}
 use mathlib.Core.List.{List, [], _∷_}
 use native.Mathlib.Omega.{arith}
-use borrow.Author.Tests.{ltb-false, eqb-true, not-false, le-ltb, lt-ltb, eq-eqb, ne-eqb}
+use borrow.Author.Tests.{ltb-false, eqb-true, not-false, le-ltb, eq-eqb}
 use lib.ListN.{take, drop, getD}
 use lib.Seq.{getD-drop}
 use lib.Dec.{lit<}
 use Rattle.wire.specs.First.{first}
-use Rattle.wire.specs.Numbers.{wordAt}
-use Rattle.opcode.specs.Options.{hasLength, destination}
 use Rattle.opcode.specs.Judgement.{judgement}
 use Rattle.opcode.specs.Allowed.{Allowed}
 use Rattle.opcode.proofs.Accepts.{accepts}
-use Rattle.wire.proofs.Tests.{silent-first, first-silent, first-past, option-true, option-false}
-use Rattle.packet.specs.Frame.{headerOf, opcodeOf, optionsOf, lengthPlace, dataOf, dataSize, place}
-use Rattle.packet.specs.Reading.{lengthDiffers, checksumDiffers, refusals, reading}
-use Rattle.packet.specs.Sound.{Sound, Taken, FrameNumber}
+use Rattle.wire.proofs.Tests.{silent-first, first-silent, option-true, option-false}
+use Rattle.packet.specs.Frame.{headerOf, opcodeOf, optionsOf, dataOf, dataSize, place}
+use Rattle.packet.specs.Reading.{refusals, reading}
+use Rattle.packet.specs.Sound.{Taken}
 use Rattle.packet.proofs.Frames.{reading-number}
 
 -- Bytes of a part are bytes.
@@ -76,32 +74,3 @@ exactly p h = (λ n. to (sym (reading-number p) ∙ n), λ t. reading-number p �
             ),
           ),
         )
-
--- The number of a frame that is not taken: the tests before its own are false.
-no-length : (p : List ℕ) → (hasLength (headerOf p) ≡ 1 → wordAt p (lengthPlace (headerOf p)) ≡ dataSize p) → lengthDiffers p ≡ false
-no-length p h = option-false _ _ (λ e. eq-eqb _ _ (h (eqb-true _ _ e)))
-
--- A sound frame that is meant for us is judged by its command alone.
-past-six : (p : List ℕ) → Sound p → destination (headerOf p) ≡ 4 → (reading p .number ≡ 0) ⊎ (6 < reading p .number)
-unfolding judgement
-past-six p f h =
-    let sum : checksumDiffers p ≡ false = option-false _ _ (λ e. eq-eqb _ _ (f .summed (eqb-true _ _ e))) in
-    let same : reading p .number ≡ first (judgement (opcodeOf p) (optionsOf p) (dataOf p)) =
-    reading-number p ∙ rw (le-ltb _ _ (f .whole), le-ltb _ _ (f .short), no-length p (f .counted), sum, eq-eqb _ _ h) in
-    rw same (first-past 6 (judgement (opcodeOf p) (optionsOf p) (dataOf p)) (omega arith))
-
-pub frame-number : (p : List ℕ) → FrameNumber p (reading p .number)
-frame-number p =
-    record {
-      announces = refl;
-      length-at = refl;
-      data-rest = refl;
-      two = λ h. reading-number p ∙ rw (lt-ltb _ _ h);
-      three = λ w h. reading-number p ∙ rw (le-ltb _ _ w, lt-ltb _ _ h);
-      four = λ w s o h. reading-number p ∙ rw (le-ltb _ _ w, le-ltb _ _ s, eq-eqb _ _ o, ne-eqb _ _ h);
-      five = λ w s l o h. reading-number p ∙ rw (le-ltb _ _ w, le-ltb _ _ s, no-length p l, eq-eqb _ _ o, ne-eqb _ _ h);
-      six = λ f h.
-          let sum : checksumDiffers p ≡ false = option-false _ _ (λ e. eq-eqb _ _ (f .summed (eqb-true _ _ e))) in
-          reading-number p ∙ rw (le-ltb _ _ (f .whole), le-ltb _ _ (f .short), no-length p (f .counted), sum, ne-eqb _ _ h);
-      past-six = past-six p;
-    }

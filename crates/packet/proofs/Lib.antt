@@ -7,4 +7,6 @@ pub mod Within
 pub mod Exactly
 pub mod MadeReads
 pub mod MadeAgain
+pub mod Plain
 pub mod Promises
+pub mod Determined

@@ -6,3 +6,4 @@ pub mod Points
 pub mod Sound
 pub mod Promises
 pub mod Internal
+pub mod Plain

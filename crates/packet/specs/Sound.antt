@@ -1,7 +1,6 @@
 -- When a packet's frame is sound, said as rules 2.1 to 2.5 say it and not by way of the refusals.
-use Prim.Native.Nat.{ℕ, _+_, _-_, _*_, _/_, _%_, _≤_, _<_}
+use Prim.Native.Nat.{ℕ, _-_, _≤_}
 use mathlib.Core.Path.{_≡_}
-use mathlib.Core.Logic.{_⊎_}
 use mathlib.Core.List.{List}
 use lib.ListN.{length, take}
 use Rattle.wire.specs.Numbers.{byteAt, wordAt}
@@ -25,18 +24,3 @@ pub record Taken (p : List ℕ) : Type 0 where
   pub frame : Sound p
   pub here : destination (headerOf p) ≡ 4
   pub allowed : Allowed (opcodeOf p) (optionsIn (headerOf p)) (dataOf p)
-
--- Rule 4.1: which number a packet gets that reading does not take, as far as its frame decides: each with what stands before it in the order.
-pub record FrameNumber (p : List ℕ) (number : ℕ) : Type 0 where
-  -- Rules 2.1 to 2.4, bit by bit: header and opcode, bit 3 for a second byte of it, bit 4 for a length of two bytes, bit 5 for a checksum; data is the rest.
-  pub announces : fields (headerOf p) ≡ 2 + byteAt p 0 / 8 % 2 + 2 * (byteAt p 0 / 16 % 2) + byteAt p 0 / 32 % 2
-  pub length-at : lengthPlace (headerOf p) ≡ 2 + byteAt p 0 / 8 % 2
-  pub data-rest : dataSize p ≡ length p - (2 + byteAt p 0 / 8 % 2 + 2 * (byteAt p 0 / 16 % 2) + byteAt p 0 / 32 % 2)
-  pub two : length p < fields (headerOf p) → number ≡ 2
-  pub three : fields (headerOf p) ≤ length p → 512 < length p → number ≡ 3
-  pub four : fields (headerOf p) ≤ length p → length p ≤ 512 → hasLength (headerOf p) ≡ 1
-      → (wordAt p (lengthPlace (headerOf p)) ≡ dataSize p → ⊥) → number ≡ 4
-  pub five : fields (headerOf p) ≤ length p → length p ≤ 512 → (hasLength (headerOf p) ≡ 1 → wordAt p (lengthPlace (headerOf p)) ≡ dataSize p)
-      → hasSum (headerOf p) ≡ 1 → (byteAt p (length p - 1) ≡ checksum (take (length p - 1) p) → ⊥) → number ≡ 5
-  pub six : Sound p → (destination (headerOf p) ≡ 4 → ⊥) → number ≡ 6
-  pub past-six : Sound p → destination (headerOf p) ≡ 4 → (number ≡ 0) ⊎ (6 < number)

@@ -17,6 +17,7 @@ ghost use Rattle.packet.specs.Reading.{answer, refusedBy, checksumDiffer
 ghost use Rattle.packet.specs.Frame.{«fields», «announced»};
 ghost use Rattle.packet.specs.Making.{present, packetOf};
 ghost use Rattle.packet.specs.Promises.{PacketRead, PacketMade};
+ghost use Rattle.packet.specs.Plain.{AnnouncedPlain};
 ghost use Rattle.packet.specs.Internal.{framed, frameAnswer};
 
 // A command with its options (header bits 3 to 7 in place) and the place of its data; or why there is none.
@@ -184,7 +185,7 @@ fn fields(header: usize) -> usize
 
 // How many bytes a packet at the start of these has by its header and its length field: any bytes, and there may be fewer.
 pub fn announced(bytes: &[u8]) -> usize
-    ensures { λ r. ⌜ (r ≡ «announced» (now (bytes .entry))) × (2 ≤ r) × (r ≤ 65541) ⌝ }
+    ensures { λ r. ⌜ (r ≡ «announced» (now (bytes .entry))) × AnnouncedPlain (now (bytes .entry)) r ⌝ }
 {
     let start = Cursor::new().header(bytes);
     let header = start.value;

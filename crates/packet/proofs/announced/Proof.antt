@@ -1,5 +1,5 @@
 -- The cursor's length, with 0 where the header has none, is the length field's number taken once or not at all.
-use Prim.Native.Nat.{ℕ, _*_, _<_}
+use Prim.Native.Nat.{ℕ, _+_, _*_, _<_}
 use mathlib.Core.Path.{_≡_, _∙_}
 use mathlib.Core.Bool.{cond}
 use native.Mathlib.Decide.{ℕ-discrete}
@@ -8,7 +8,8 @@ use borrow.Author.Tests.{ne-eqb}
 use lib.Dec.{eqb}
 use Rattle.opcode.specs.Options.{hasLength}
 use Rattle.wire.specs.Numbers.{wordAt}
-use Rattle.packet.specs.Frame.{headerOf, lengthPlace}
+use Rattle.packet.specs.Frame.{headerOf, lengthPlace, announced}
+use Rattle.packet.proofs.Plain.{announced-plain}
 use borrow.Author.Needs.{needs}
 use Rattle.packet.proofs.announced.Statement.{statement}
 use Rattle.packet.proofs.announced.Tie as tie
@@ -58,7 +59,10 @@ returns : tie.Need-returns
 returns c =
     let small : c .before .before .length .result .value < 65536 = c .before .before .length .ensures .2 (omega arith) in
     let fields = rw (is-header (c .before .before .before .before)) at (c .before .fields .ensures) in
-    (rw (fields, counted (c .before .before)), omega arith, omega arith)
+    let p = c .before .before .before .before .before .before .before .args .bytes .now in
+    let r = c .before .fields .result + c .before .before .length .result .value in
+    let same : r ≡ announced p = rw (fields, counted (c .before .before)) in
+    (same, announced-plain p r same (omega arith) (omega arith))
 
 pub announced-spec : {M : Type 1} → statement M
 announced-spec =
