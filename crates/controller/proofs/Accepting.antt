@@ -16,7 +16,7 @@ use Rattle.controller.specs.State.{State, state}
 use Rattle.controller.specs.Commands.{blockAfter, written}
 use Rattle.controller.specs.Mark.{markedBlock}
 use Rattle.controller.specs.Step.{statusReply, out, step}
-use Rattle.controller.specs.Demands.{Demand2}
+use Rattle.controller.proofs.Demands.{Demand2}
 use Rattle.controller.proofs.Effects.{leaves, returns, some-left, some-returned, written-data, read-data}
 use Rattle.controller.proofs.Steps.{step-read, step-written}
 use Rattle.controller.proofs.Demands.{accepted-exactly, decided}

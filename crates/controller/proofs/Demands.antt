@@ -9,7 +9,7 @@ use native.Mathlib.Nat.{zero-div}
 use native.Mathlib.Omega.{arith}
 use native.Mathlib.Decide.{ℕ-discrete}
 use borrow.Author.Tests.{eq-eqb, ne-eqb, le-leb, ltb-false, le-ltb}
-use lib.ListN.{length, getD, drop}
+use lib.ListN.{length, getD, take, drop, length-replicate}
 use lib.Seq.{drop-at}
 use lib.Dec.{eqb}
 use Rattle.wire.specs.Numbers.{byteAt}
@@ -22,22 +22,72 @@ use Rattle.opcode.specs.Judgement.{judgement}
 use Rattle.wire.proofs.Tests.{told, Silent, Numbered, silent-first, first-silent, first-left, first-right}
 use Rattle.reply.specs.Reply.{replyBytes}
 use Rattle.packet.specs.Frame.{headerOf, opcodeOf, dataOf}
-use Rattle.packet.specs.Reading.{refusals, faultOf}
+use Rattle.packet.specs.Reading.{refusals, faultOf, reading}
 use Rattle.packet.proofs.Frames.{reading-number, reading-fault}
 use Rattle.packet.proofs.Exactly.{exactly}
 use Rattle.settings.specs.Ranges.{settingsRight}
 use Rattle.settings.proofs.Allowed.{settings-exactly, reset-allowed}
 use Rattle.settings.proofs.AfterReset.{reset-bytes, reset-points, reset-gains}
-use Rattle.settings.specs.Reset.{resetBlock}
+use Rattle.settings.specs.Reset.{resetShape, resetBlock, resetMap, resetGains}
 use Rattle.settings.specs.AfterReset.{byteAfterReset}
 use Rattle.controller.specs.State.{State, lengthsRight, stopped, ResetOut, reset, resetState, replyRoom}
 use Rattle.controller.specs.Rows.{markOf, MarkRight}
 use Rattle.controller.specs.Commands.{runsPast}
-use Rattle.controller.specs.Step.{reads, readAndPlaced, decision, stepRefusals, numberOf, statusReply, replyTo, Out, out, step}
-use Rattle.controller.specs.Demands.{StateLent, LentRight, Demand1, Demand2, Placed, Accepted, Resets}
+use Rattle.controller.specs.Step.{reads, readAndPlaced, decision, stepRefusals, numberOf, statusReply, readReply, replyTo, Out, out, step}
+use Rattle.controller.specs.Plain.{StateLent, LentRight, Placed}
+use Rattle.controller.specs.Effects.{blockWith, Leaves, Returns}
+use Rattle.controller.specs.Mark.{writtenMarked}
+use Rattle.controller.specs.Demands.{Accepted, Resets}
 use Rattle.controller.proofs.Effects.{leaves, returns, some-left, some-returned, written-data, read-data}
 use Rattle.controller.proofs.Bounds.{placed-number}
 use Rattle.controller.proofs.Steps.{decision-number, step-stopped, step-refused, step-read, step-written}
+
+-- ---- Demand 1 by the definitions: which number is given, and that a refusal changes nothing (rules 3.2 and 4.1 to 4.3).
+
+pub record Demand1 (p : List ℕ) (s : State) (reply : List ℕ) (o : Out) : Type 0 where
+  -- Rule 4.1: the number is the first that applies: 1 exactly if what is lent is not right; else what reading gives; else 12, where
+  -- start and count do not lie within their table.
+  pub number : o .status ≡ first (stepRefusals p s reply)
+  pub one : (o .status ≡ 1) ↔ (LentRight s reply → ⊥)
+  pub from-reading : LentRight s reply → (reading p .number ≡ 0 → ⊥) → (o .status ≡ reading p .number) × (o .fault ≡ reading p .fault)
+  pub twelve : LentRight s reply → reading p .number ≡ 0 → (Placed p (s .block) → ⊥) → o .status ≡ 12
+  -- Rule 4.2: a refused packet changes no setting and no table point.
+  pub unchanged : (o .status ≡ 0 → ⊥) → o .state ≡ s
+  -- Rules 3.2 and 3.3: refusal 1 writes no reply; another writes one of its number and place, if the packet asks for it.
+  pub stopped : (LentRight s reply → ⊥) → o ≡ out 1 0 0 s reply
+  pub refused : LentRight s reply → (o .status ≡ 0 → ⊥)
+      → o
+      ≡ out (o .status) (o .fault) (length (statusReply (o .status) (o .fault) p)) s (over (statusReply (o .status) (o .fault) p) reply)
+  -- Rule 4.2: the reply buffer changes only where the reply is written.
+  pub behind : drop (o .size) (o .reply) ≡ drop (o .size) reply
+
+-- ---- Demand 2 by the definitions: what an accepted packet does (rules 5.1 to 5.9, 5.11 and 11.2).
+
+-- What an accepted write leaves, but for the row mark, and what an accepted read returns, by the rows of Effects.
+pub record Left (p : List ℕ) (s : State) (reply : List ℕ) (o : Out) : Type 0 where
+  pub after : State
+  pub by : Leaves s (opcodeOf p) (dataOf p) after
+  pub answer : o
+      ≡ out 0 0 (length (statusReply 0 0 p)) (blockWith after 865 (take 4 (drop 865 (o .state .block)))) (over (statusReply 0 0 p) reply)
+
+pub record Returned (p : List ℕ) (s : State) (reply : List ℕ) (o : Out) : Type 0 where
+  pub back : List ℕ
+  pub by : Returns s (opcodeOf p) (dataOf p) back
+  pub answer : o
+      ≡ out 0 0 (length (replyBytes (eqb (hasSum (headerOf p)) 1) 0 back)) s (over (replyBytes (eqb (hasSum (headerOf p)) 1) 0 back) reply)
+
+-- Accepted exactly then; a write leaves the command's state, a read the state as it was and the command's data in the reply (3.3).
+pub record Demand2 (p : List ℕ) (s : State) (reply : List ℕ) (o : Out) : Type 0 where
+  pub exactly : (o .status ≡ 0) ↔ Accepted p s reply
+  pub writes : Accepted p s reply → isRead (headerOf p) ≡ 0
+      → o ≡ out 0 0 (length (statusReply 0 0 p)) (writtenMarked (opcodeOf p) (dataOf p) s) (over (statusReply 0 0 p) reply)
+  pub reads : Accepted p s reply → isRead (headerOf p) ≡ 1
+      → o
+      ≡ out 0 0 (length (readReply (opcodeOf p) (headerOf p) (dataOf p) s)) s (over (readReply (opcodeOf p) (headerOf p) (dataOf p) s) reply)
+  pub leaves : Accepted p s reply → isRead (headerOf p) ≡ 0 → Left p s reply o
+  pub returns : Accepted p s reply → isRead (headerOf p) ≡ 1 → Returned p s reply o
+
+-- ---- The proofs.
 
 -- Tests of lists that stand one behind the other.
 silent-left : (a b : List (ℕ × Bool)) → Silent (a ++ b) → Silent a
@@ -237,6 +287,16 @@ mark-reset =
       each = λ r l. (λ e. absurd (omega (arith, rw no-mark at e, zero-div (2 ^ r))), λ m. absurd (m .differs .other refl refl));
     }
 
+reset-long : StateLent resetState
+unfolding resetBlock resetShape resetMap resetGains
+reset-long =
+    record {
+      block = refl;
+      staged = length-replicate {A = ℕ} 3968 0;
+      live = length-replicate {A = ℕ} 3968 0;
+      gains = length-replicate {A = ℕ} 6048 4096;
+    }
+
 pub resets : (s : State) {o : ResetOut} → o ≡ reset s → Resets s o
 unfolding reset
 resets s {o} same = go (lengthsRight s) refl
@@ -246,12 +306,18 @@ resets s {o} same = go (lengthsRight s) refl
         rw (same, e)
         (record {
           outcome = rw e;
+          plain =
+              record {
+                wrong-length = λ wrong. absurd (wrong (state-lent s .0 e));
+                accepted = λ l. refl;
+                long = λ l. reset-long;
+                block-after = λ l. reset-bytes;
+                staged-after = λ l k h. reset-points k;
+                live-after = λ l k h. reset-points k;
+                gains-after = λ l. reset-gains;
+              };
           exactly = (λ z. state-lent s .0 e, λ l. refl);
-          wrong-length = λ wrong. absurd (wrong (state-lent s .0 e));
           in-range = λ z. reset-allowed;
-          block-after = λ z. reset-bytes;
-          maps-after = λ z k. (reset-points k, reset-points k);
-          gains-after = λ z. reset-gains;
           mark-after = λ z. (no-mark, mark-reset);
         })
     go false e =
@@ -259,11 +325,17 @@ resets s {o} same = go (lengthsRight s) refl
         rw (same, e)
         (record {
           outcome = rw e;
+          plain =
+              record {
+                wrong-length = λ wrong. (refl, refl);
+                accepted = λ l. absurd (none l);
+                long = λ l. absurd (none l);
+                block-after = λ l. absurd (none l);
+                staged-after = λ l. absurd (none l);
+                live-after = λ l. absurd (none l);
+                gains-after = λ l. absurd (none l);
+              };
           exactly = (λ z. absurd (omega arith), λ l. absurd (none l));
-          wrong-length = λ wrong. refl;
           in-range = λ z. absurd (omega arith);
-          block-after = λ z. absurd (omega arith);
-          maps-after = λ z. absurd (omega arith);
-          gains-after = λ z. absurd (omega arith);
           mark-after = λ z. absurd (omega arith);
         })

@@ -28,7 +28,7 @@ use Rattle.opcode.specs.Allowed.{WriteData}
 use Rattle.packet.specs.Points.{startOf, countOf}
 use Rattle.controller.specs.declared.mark.Fresh.{Fresh}
 use Rattle.controller.specs.Mark.{markAt, markBits, firstTouched, lastTouched, markAfter, markedBlock, RowsOut, rowsOut, rowsTold}
-use Rattle.controller.specs.Rows.{RowsPromised}
+use Rattle.controller.specs.Demands.{RowsPromised}
 use Rattle.controller.specs.Internal.{Granted, MarkGranted, RowsNamed, RowsFresh}
 use Rattle.controller.specs.Commands.{blockAfter, runsPast}
 use Rattle.controller.proofs.Bounds.{counts, write-data}
@@ -140,10 +140,13 @@ rows-promised block small status count lowest same = go (ℕ-discrete (length bl
         let low : lowest ≡ firstTrue (markBits block) = ap (λ (o : RowsOut). o .lowest) told in
         record {
           outcome = same;
-          exactly = (λ z. e, λ z. none);
-          wrong-length = λ wrong. absurd (wrong e);
-          marked = λ z. many ∙ sym (count-ones 32 (markAt block) small);
-          lowest-marked = λ z. low ∙ sym (first-set 32 (markAt block));
+          plain =
+              record {
+                accepted = λ z. none;
+                wrong-length = λ wrong. absurd (wrong e);
+                marked = λ z. many ∙ sym (count-ones 32 (markAt block) small);
+                lowest-marked = λ z. low ∙ sym (first-set 32 (markAt block));
+              };
           moved = λ z staged live right.
               let all = rows-counted (columnsAt block stagedShape) (rowsAt block stagedShape) staged live (markAt block) right in
               rw (many, low) (record { counted = all .counted; lowest-moved = all .lowest-moved });
@@ -153,10 +156,13 @@ rows-promised block small status count lowest same = go (ℕ-discrete (length bl
         let one : status ≡ 1 = ap (λ (o : RowsOut). o .status) told in
         record {
           outcome = same;
-          exactly = (λ z. absurd (omega arith), λ z. absurd (e z));
-          wrong-length = λ wrong. (one, ap (λ (o : RowsOut). o .count) told, ap (λ (o : RowsOut). o .lowest) told);
-          marked = λ z. absurd (omega arith);
-          lowest-marked = λ z. absurd (omega arith);
+          plain =
+              record {
+                accepted = λ z. absurd (e z);
+                wrong-length = λ wrong. (one, ap (λ (o : RowsOut). o .count) told, ap (λ (o : RowsOut). o .lowest) told);
+                marked = λ z. absurd (e z);
+                lowest-marked = λ z. absurd (e z);
+              };
           moved = λ z. absurd (omega arith);
         }
 

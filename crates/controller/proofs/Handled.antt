@@ -13,15 +13,14 @@ use Rattle.controller.specs.State.{State, stopped}
 use Rattle.controller.specs.Commands.{runsPast}
 use Rattle.controller.specs.Step.{Out, reads, numberOf, step}
 use Rattle.controller.specs.Demands.{Handled}
-use Rattle.controller.proofs.Demands.{runs, right-running, demand1}
-use Rattle.controller.proofs.Accepting.{demand2}
+use Rattle.controller.proofs.Demands.{runs, right-running, demand1, accepted-exactly}
+use Rattle.controller.proofs.Plain.{step-plain}
 use Rattle.controller.proofs.ReadBack.{replied}
 use Rattle.controller.proofs.Kept.{tail-kept}
 use Rattle.controller.proofs.Live.{one-kept}
 use Rattle.controller.proofs.InRange.{stays-lent}
 use Rattle.controller.proofs.Applied.{applied, cleared-by}
 use Rattle.controller.proofs.Same.{same-write}
-use Rattle.controller.proofs.Marking.{rows-marked}
 use Rattle.controller.proofs.Unmarked.{unmarked}
 
 -- Refusals 1 to 6 stand before those of the command, and 12 behind them.
@@ -37,16 +36,15 @@ handled p bytes s reply e =
     rw e
     (record {
       outcome = refl;
-      demand1 = demand1 p s reply;
-      demand2 = demand2 p bytes s reply;
-      located = step-located p bytes s reply;
+      plain = step-plain p bytes s reply (step-located p bytes s reply);
+      exactly = accepted-exactly p bytes s reply;
+      behind = demand1 p s reply .behind;
       reply-meant = replied p s reply;
       stays = stays-lent p bytes s reply;
       tail = tail-kept p s reply;
       applied = applied p s reply;
       cleared-by = cleared-by p s reply;
       live = one-kept p s reply;
-      rows = rows-marked p s reply;
       unmarked = λ t h. unmarked p bytes s t reply h;
       same-write = λ l. same-write p s reply (runs s reply (right-running l));
     })

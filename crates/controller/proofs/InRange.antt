@@ -36,7 +36,7 @@ use Rattle.controller.specs.State.{State, replyRoom}
 use Rattle.controller.specs.Commands.{gainsSent, gainsInto, colourInto, writeGains, shapeBytes, writeShape, applyBlock, applyLive, writeSmooth, blockAfter, written, runsPast, third}
 use Rattle.controller.specs.Step.{numberOf, replyTo, step}
 use Rattle.controller.specs.Internal.{PointsWrite, GainsWrite}
-use Rattle.controller.specs.Demands.{StateLent, LentRight}
+use Rattle.controller.specs.Plain.{StateLent, LentRight}
 use Rattle.controller.proofs.Demands.{Running, running-right, right-running}
 use Rattle.controller.proofs.Bounds.{write-data, points-write, gains-write}
 use Rattle.controller.proofs.Reach.{Kind, kindOf, other-after}

@@ -23,4 +23,6 @@ pub mod Marking
 pub mod Unmarked
 pub mod Fresh
 pub mod Effects
+pub mod Plain
 pub mod Handled
+pub mod Determined

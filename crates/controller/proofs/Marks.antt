@@ -18,17 +18,21 @@ pub record AllButMark (block after : List ℕ) : Type 0 where
   pub front : Same after 0 block 0 settingsEnd
   pub behind : drop (markPlace + markSize) after ≡ drop (markPlace + markSize) block
 
+-- Whatever four bytes are put there.
+pub put-mark : (block new : List ℕ) → length block ≡ blockSize → length new ≡ markSize → AllButMark block (paste block markPlace new markSize)
+put-mark block new l four =
+    record {
+      long = length-paste block markPlace new markSize (omega arith) (omega arith);
+      front = paste-apart block new markPlace markSize (omega arith) (omega arith) 0 settingsEnd (omega arith);
+      behind = behind-paste block new markPlace markSize (omega arith) (omega arith) (markPlace + markSize) (omega arith);
+    }
+
 pub mark-alone : (op : ℕ) (d block staged live : List ℕ) → length block ≡ blockSize → AllButMark block (markedBlock op d block staged live)
 unfolding markedBlock
 mark-alone op d block staged live l = go (marks op d) refl
   where
     put : (mark : List Bool) → AllButMark block (withMark mark block)
-    put mark =
-        record {
-          long = length-paste block markPlace (markBytes mark) markSize (omega arith) (omega arith);
-          front = paste-apart block (markBytes mark) markPlace markSize (omega arith) (omega arith) 0 settingsEnd (omega arith);
-          behind = behind-paste block (markBytes mark) markPlace markSize (omega arith) (omega arith) (markPlace + markSize) (omega arith);
-        }
+    put mark = put-mark block (markBytes mark) l refl
 
     go : (b : Bool) → marks op d ≡ b → AllButMark block (markedBlock op d block staged live)
     go true e = rw e (put _)

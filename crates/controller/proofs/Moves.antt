@@ -36,7 +36,7 @@ use Rattle.controller.proofs.Bounds.{counts, write-data, points-write}
 use Rattle.controller.proofs.Changes.{Passed, passed, Change, changed, enabled, enabled-long}
 use Rattle.controller.proofs.Kept.{tail-changed}
 use Rattle.controller.proofs.Live.{live-written}
-use Rattle.controller.specs.Demands.{StateLent}
+use Rattle.controller.specs.Plain.{StateLent}
 use Rattle.controller.proofs.Demands.{Running}
 use Rattle.controller.proofs.InRange.{written-tables, shape-stays}
 use Rattle.controller.proofs.Accepting.{alone}

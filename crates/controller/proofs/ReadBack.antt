@@ -30,7 +30,8 @@ use Rattle.settings.specs.Ranges.{settingsRight}
 use Rattle.controller.specs.State.{State, stopped, dataRoom, replyRoom}
 use Rattle.controller.specs.Commands.{readGains, readPoints, readShape, readSmooth, blockBack, dataBack, runsPast}
 use Rattle.controller.specs.Step.{reads, numberOf, answers, replyData, replyTo, step}
-use Rattle.controller.specs.Demands.{Asks, Replied}
+use Rattle.controller.specs.Plain.{Asks}
+use Rattle.controller.specs.Demands.{Replied}
 use Rattle.controller.proofs.Replies.{place-few}
 use Rattle.controller.proofs.Bounds.{counts, gains-read, points-read, placed-number, placed-fault}
 use Rattle.controller.proofs.Reach.{Kind, kindOf, other-back}
@@ -114,7 +115,7 @@ either : (a b : Bool) → (a || b) ≡ true → (a ≡ true) ⊎ (b ≡ true)
 either true b e = inl refl
 either false b e = inr e
 
-asks-it : (n : ℕ) (p : List ℕ) → answers n p ≡ true → Asks p × (n ≡ 1 → ⊥)
+pub asks-it : (n : ℕ) (p : List ℕ) → answers n p ≡ true → Asks p × (n ≡ 1 → ⊥)
 asks-it n p e =
     let some : 0 < length p = search (told, e) in
     let bits : (reads p || eqb (asksReply (headerOf p)) 1) ≡ true = search (told, e) in
@@ -126,7 +127,7 @@ asks-it n p e =
       eqb-false n 1 other,
     )
 
-answered : (n : ℕ) (p : List ℕ) → Asks p × (n ≡ 1 → ⊥) → answers n p ≡ true
+pub answered : (n : ℕ) (p : List ℕ) → Asks p × (n ≡ 1 → ⊥) → answers n p ≡ true
 answered n p a =
     let bits : (reads p || eqb (asksReply (headerOf p)) 1) ≡ true =
     ⊎-elim (λ r. rw (eq-eqb (isRead (headerOf p)) 1 r)) (λ r. rw (eq-eqb (asksReply (headerOf p)) 1 r, or-true)) (a .0 .bit) in

@@ -6,6 +6,7 @@ pub mod Step
 pub mod Writes
 pub mod Rows
 pub mod Effects
+pub mod Plain
 pub mod Demands
 pub mod Calls
 pub mod Internal

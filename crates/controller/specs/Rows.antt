@@ -10,11 +10,10 @@ use Rattle.wire.specs.Numbers.{wordAt}
 use Rattle.opcode.specs.Allowed.{two}
 use Rattle.packet.specs.Frame.{dataOf}
 use Rattle.rows.specs.Bits.{bitAt}
-use Rattle.rows.specs.Right.{Moved, RightFor, Touches, RowsCounted}
+use Rattle.rows.specs.Right.{Moved, RightFor, Touches}
 use Rattle.controller.specs.State.{State}
 use Rattle.controller.specs.Step.{Out}
 use Rattle.controller.specs.Writes.{Writes, Applies}
-use Rattle.controller.specs.Mark.{rowsOut, rowsTold}
 
 -- ---- Rule 11.1: a right mark.
 
@@ -80,14 +79,10 @@ pub record SameAnswer (o q : Out) : Type 0 where
 
 -- ---- Rule 11.4: what is told of a mark.
 
-pub record RowsPromised (block : List ℕ) (status count lowest : ℕ) : Type 0 where
-  pub outcome : rowsOut status count lowest ≡ rowsTold block
+pub record RowsPlain (block : List ℕ) (status count lowest : ℕ) : Type 0 where
   -- The block alone is judged, by its length.
-  pub exactly : (status ≡ 0) ↔ (length block ≡ 1024)
+  pub accepted : length block ≡ 1024 → status ≡ 0
   pub wrong-length : (length block ≡ 1024 → ⊥) → (status ≡ 1) × (count ≡ 0) × (lowest ≡ 0)
   -- The set bits of the number, and the zeros below the lowest of them.
-  pub marked : status ≡ 0 → count ≡ ones (markOf block)
-  pub lowest-marked : status ≡ 0 → lowest ≡ trailingZeros 32 (markOf block)
-  -- Of a right mark they are those of the rows that moved.
-  pub moved : status ≡ 0 → (staged live : List ℕ) → RightFor (columnsOf block) (rowsOf block) staged live (markOf block)
-      → RowsCounted (columnsOf block) (rowsOf block) staged live count lowest
+  pub marked : length block ≡ 1024 → count ≡ ones (markOf block)
+  pub lowest-marked : length block ≡ 1024 → lowest ≡ trailingZeros 32 (markOf block)

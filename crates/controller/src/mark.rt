@@ -11,7 +11,7 @@ ghost use lib.Seq.{paste};
 ghost use Rattle.wire.specs.Tables.{longBytes};
 ghost use Rattle.settings.specs.Layout.{blockSize, markPlace, markSize};
 ghost use Rattle.controller.specs.Mark.{markAt};
-ghost use Rattle.controller.specs.Rows.{RowsPromised};
+ghost use Rattle.controller.specs.Demands.{RowsPromised};
 ghost use Rattle.controller.specs.Internal.{MarkGranted, RowsNamed, RowsFresh};
 
 // What a write does to the mark: whether it changes it at all; if so, the rows from the first up to the end, in a map of so many columns, are worked out and put

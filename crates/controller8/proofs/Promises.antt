@@ -10,7 +10,8 @@ use Rattle.wire.proofs.Tables.{length-halves}
 use Rattle.tables.proofs.Bytes.{words-bytes}
 use Rattle.controller.specs.State.{State, resetState, resetOut, reset}
 use Rattle.controller.specs.Step.{step}
-use Rattle.controller.specs.Demands.{StateLent, Handled}
+use Rattle.controller.specs.Plain.{StateLent}
+use Rattle.controller.specs.Demands.{Handled}
 use Rattle.controller.proofs.Handled.{handled}
 use Rattle.controller.proofs.Demands.{resets}
 use Rattle.controller8.specs.Bytes.{Lent, stateIn, lentOf, byteLengthsRight, LentOut, outBytes, stepBytes, LentReset, resetBytes, BytesLent, HandledBytes, ResetsBytes}

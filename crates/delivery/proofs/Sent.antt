@@ -21,7 +21,7 @@ use Rattle.controller.specs.Mark.{marked}
 use Rattle.controller.specs.Step.{Out, out, statusReply, step}
 use Rattle.controller.specs.Writes.{Writes}
 use Rattle.controller.specs.Rows.{markOf, columnsOf, RowRight, TouchedBy, RowsMarked}
-use Rattle.controller.specs.Demands.{LentRight}
+use Rattle.controller.specs.Plain.{LentRight}
 use Rattle.controller.proofs.Bounds.{counts}
 use Rattle.controller.proofs.Demands.{lent, running-right, right-running, «runs» as stopped-not}
 use Rattle.controller.proofs.Marks.{AllButMark, mark-alone, front-byte, front-part}

@@ -10,7 +10,8 @@ use Rattle.packet.specs.Frame.{headerOf, announced}
 use Rattle.packet.specs.Sound.{Sound}
 use Rattle.controller.specs.State.{State, resetState}
 use Rattle.controller.specs.Rows.{MarkRight}
-use Rattle.controller.specs.Demands.{LentRight, stagedPoints, LiveKept}
+use Rattle.controller.specs.Plain.{LentRight, stagedPoints}
+use Rattle.controller.specs.Demands.{LiveKept}
 use Rattle.controller.specs.Calls.{Call, stateAfterAll, NoneApplies}
 use Rattle.upload.specs.Plan.{packetsOf, batchOf, EachAnnounced}
 use Rattle.upload.specs.Judge.{MapOf}

@@ -20,7 +20,7 @@ use Rattle.controller.specs.State.{State, resetState}
 use Rattle.packet.specs.Reading.{faultOf}
 use Rattle.controller.specs.Step.{Out, out, statusReply, step}
 use Rattle.controller.specs.Calls.{stateAfterAll}
-use Rattle.controller.specs.Demands.{LentRight}
+use Rattle.controller.specs.Plain.{LentRight}
 use Rattle.controller.proofs.Demands.{runs, right-running, demand1}
 use Rattle.controller.proofs.InRange.{stays-lent}
 use Rattle.records.specs.Session.{Run, mark, start, taken, fileRun, Splits, ends, next}

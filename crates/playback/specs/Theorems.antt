@@ -6,7 +6,7 @@ use mathlib.Core.List.{List, [], _∷_, _++_}
 use lib.ListN.{length, take, drop, getD}
 use Rattle.controller.specs.State.{State, resetState}
 use Rattle.controller.specs.Step.{statusReply, step}
-use Rattle.controller.specs.Demands.{LentRight}
+use Rattle.controller.specs.Plain.{LentRight}
 use Rattle.text.specs.Text.{Decimal, Hex}
 use Rattle.records.specs.Session.{mark, fileRun, Splits}
 use Rattle.playback.specs.declared.Progress.{Progress}

@@ -4,3 +4,4 @@ pub mod Walk
 pub mod Points
 pub mod Right
 pub mod Touched
+pub mod Plain
