@@ -19,15 +19,15 @@ use Rattle.packet.proofs.Determined.{same-fault}
 use Rattle.rows.specs.Bits.{bitAt}
 use Rattle.rows.specs.Right.{Moved}
 use Rattle.rows.proofs.Plain.{same-bits}
-use Rattle.controller.specs.State.{State, state, lengthsRight, ResetOut}
+use Rattle.controller.specs.State.{State, state, lengthsRight, ResetOut, reset, resetState}
 use Rattle.controller.specs.Commands.{written}
 use Rattle.controller.specs.Step.{answers, Out, step}
 use Rattle.controller.specs.Writes.{Writes, Applies}
 use Rattle.controller.specs.Effects.{blockWith, Leaves}
 use Rattle.controller.specs.Rows.{markOf, columnsOf, rowsOf, RowRight, TouchedBy, RowsPlain}
-use Rattle.controller.specs.Plain.{StateLent, Asks, ReplyData, ReplyWritten, LeftBy, StepPlain, ResetPlain}
+use Rattle.controller.specs.Plain.{StateLent, Asks, ReplyData, ReplyWritten, LeftBy, StepPlain, ResetPlain, Pinned}
 use Rattle.controller.proofs.Effects.{leaves, returns}
-use Rattle.controller.proofs.Demands.{state-lent}
+use Rattle.controller.proofs.Demands.{state-lent, resets}
 use Rattle.controller.proofs.Accepting.{written-long}
 use Rattle.controller.proofs.ReadBack.{asks-it, answered}
 use Rattle.controller.proofs.Marks.{put-mark, front-byte}
@@ -321,3 +321,16 @@ rows-determined block f g =
           let y = g .wrong-length e in
           (x .0 ∙ sym (y .0), x .1 ∙ sym (y .1), x .2 ∙ sym (y .2))
     ]
+
+-- ---- What names mean.
+
+pub pinned : Pinned
+unfolding reset
+pinned =
+    record {
+      lists = λ b t l g. refl;
+      answer = λ status fault size s reply. refl;
+      reset-answer = λ status s. refl;
+      one-packet = λ p bytes s reply. handled p bytes s reply refl .plain;
+      at-reset = λ s l. resets s {o = record { status = 0; state = resetState }} (rw (state-lent s .1 l)) .plain;
+    }

@@ -29,13 +29,14 @@ use Rattle.controller.specs.State.{State, stopped}
 use Rattle.controller.specs.Commands.{runsPast, dataBack}
 use Rattle.controller.specs.Step.{reads, stepRefusals, numberOf, answers, replyData, replyTo, stateAfter, Out, step}
 use Rattle.controller.specs.Effects.{Returns}
-use Rattle.controller.specs.Plain.{LentRight, Placed, StepRefuses, lent-wrong, packet, past-table, Asks, ReplyData, ReplyWritten, LeftBy, StepPlain}
+use Rattle.controller.specs.Plain.{StateLent, LentRight, Placed, StepRefuses, lent-wrong, packet, past-table, Asks, ReplyData, ReplyWritten, LeftBy, StepPlain}
 use Rattle.controller.proofs.Effects.{returns, some-returned, read-data}
 use Rattle.controller.proofs.Demands.{lent, runs, running-right, right-running, refusals-numbered, demand1, accepted-exactly}
 use Rattle.controller.proofs.Steps.{step-stopped}
 use Rattle.controller.proofs.Bounds.{placed-number}
 use Rattle.controller.proofs.Accepting.{demand2}
 use Rattle.controller.proofs.ReadBack.{asks-it, answered}
+use Rattle.controller.proofs.InRange.{stays-lent}
 use Rattle.controller.proofs.Marking.{rows-marked}
 
 -- A packet alone is refused by 2 to 11.
@@ -214,3 +215,11 @@ step-plain p bytes s reply l =
       replied = reply-written p bytes s reply;
       silent = no-reply p bytes s reply;
     }
+
+-- Lengths stay, whatever the packet.
+pub lengths-kept : (p : List ℕ) → ((k : ℕ) → getD p k 0 < 256) → (s : State) (reply : List ℕ) → StateLent s → StateLent (step p s reply .state)
+lengths-kept p bytes s reply l =
+    elim (ℕ-discrete (step p s reply .status) 0) [
+      | yes z ↦ stays-lent p bytes s reply (accepted-exactly p bytes s reply .0 z .lent) .tables
+      | no some ↦ subst StateLent (sym (demand1 p s reply .unchanged some)) l
+    ]

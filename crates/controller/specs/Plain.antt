@@ -8,7 +8,7 @@ use lib.ListN.{length, take, drop, getD}
 use lib.Dec.{eqb}
 use Rattle.wire.specs.Numbers.{byteAt, wordAt}
 use Rattle.wire.specs.Tables.{words}
-use Rattle.wire.specs.Plain.{Least}
+use Rattle.wire.specs.Plain.{Least, Bytes}
 use Rattle.runs.specs.Pairs.{expand}
 use Rattle.opcode.specs.Options.{hasSum, asksReply, isRead}
 use Rattle.opcode.specs.Faults.{FirstFault}
@@ -17,8 +17,8 @@ use Rattle.packet.specs.Plain.{Refuses}
 use Rattle.reply.specs.Reply.{replyBytes}
 use Rattle.settings.specs.Allowed.{SettingsAllowed}
 use Rattle.settings.specs.AfterReset.{byteAfterReset}
-use Rattle.controller.specs.State.{State, ResetOut}
-use Rattle.controller.specs.Step.{Out}
+use Rattle.controller.specs.State.{State, state, resetState, ResetOut, resetOut}
+use Rattle.controller.specs.Step.{Out, out, step}
 use Rattle.controller.specs.Effects.{blockWith, Leaves, Returns}
 use Rattle.controller.specs.Rows.{columnsOf, rowsOf, RowsMarked}
 
@@ -123,3 +123,15 @@ pub record ResetPlain (s : State) (o : ResetOut) : Type 0 where
   pub staged-after : StateLent s → (k : ℕ) → k < 3968 → getD (o .state .staged) k 0 ≡ 0
   pub live-after : StateLent s → (k : ℕ) → k < 3968 → getD (o .state .live) k 0 ≡ 0
   pub gains-after : StateLent s → (k : ℕ) → k < 6048 → getD (o .state .gains) k 0 ≡ 4096
+
+-- ---- What the names mean that are cited here and above.
+
+pub record Pinned : Type 0 where
+  -- Which lent list is which, and what an answer holds.
+  pub lists : (b t l g : List ℕ) → state b t l g ≡ record { block = b; staged = t; live = l; gains = g }
+  pub answer : (status fault size : ℕ) (s : State) (reply : List ℕ)
+      → out status fault size s reply ≡ record { status = status; fault = fault; size = size; state = s; reply = reply }
+  pub reset-answer : (status : ℕ) (s : State) → resetOut status s ≡ record { status = status; state = s }
+  -- One packet, and the state that reset leaves, of which session files speak.
+  pub one-packet : (p : List ℕ) → Bytes p → (s : State) (reply : List ℕ) → StepPlain p s reply (step p s reply)
+  pub at-reset : (s : State) → StateLent s → ResetPlain s (record { status = 0; state = resetState })

@@ -3,3 +3,4 @@
 pub mod Moves
 pub mod Ways
 pub mod Promises
+pub mod Determined

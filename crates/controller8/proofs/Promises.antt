@@ -1,7 +1,7 @@
 -- What the entries on bytes promise, from the equations that their code meets: where the lengths in bytes are right, what the entries on numbers
 -- promise of the numbers that the bytes hold, which turn into bytes and back without loss; else 1, and all as it was.
 use Prim.Native.Nat.{ℕ, _<_}
-use mathlib.Core.Path.{_≡_, refl, sym, ap, _∙_}
+use mathlib.Core.Path.{_≡_, refl, sym, ap, subst, _∙_}
 use mathlib.Core.Bool.{Bool, true, false, true≢false}
 use mathlib.Core.List.{List}
 use native.Mathlib.Omega.{arith}
@@ -11,10 +11,13 @@ use Rattle.tables.proofs.Bytes.{words-bytes}
 use Rattle.controller.specs.State.{State, resetState, resetOut, reset}
 use Rattle.controller.specs.Step.{step}
 use Rattle.controller.specs.Plain.{StateLent}
-use Rattle.controller.specs.Demands.{Handled}
+use Rattle.controller.specs.Demands.{Handled, Resets}
 use Rattle.controller.proofs.Handled.{handled}
-use Rattle.controller.proofs.Demands.{resets}
-use Rattle.controller8.specs.Bytes.{Lent, stateIn, lentOf, byteLengthsRight, LentOut, outBytes, stepBytes, LentReset, resetBytes, BytesLent, HandledBytes, ResetsBytes}
+use Rattle.controller.proofs.Plain.{lengths-kept}
+use Rattle.controller.proofs.Demands.{state-lent, resets}
+use Rattle.controller8.specs.Bytes.{Lent, stateIn, lentOf, byteLengthsRight, LentOut, outBytes, stepBytes, LentReset, resetBytes}
+use Rattle.controller8.specs.Plain.{BytesLent}
+use Rattle.controller8.specs.Promises.{HandledBytes, ResetsBytes}
 use Rattle.controller8.proofs.Ways.{Small, sized, right-sized, wide-lengths, unchanged}
 
 -- Numbers as bytes, read as numbers again.
@@ -35,6 +38,10 @@ pub step-bytes : (p : List ℕ) (s : State) (reply : List ℕ) → StateLent s �
 unfolding stepBytes
 step-bytes p s reply z = rw (right-sized (lentOf s) (lent-bytes s z), again s)
 
+-- Lent lengths that are right are right in numbers.
+pub wide-lent : (l : Lent) → BytesLent l → StateLent (stateIn l)
+wide-lent l z = state-lent (stateIn l) .0 (wide-lengths l z)
+
 -- Lengths that the test refuses are not right.
 pub wrong : (l : Lent) → byteLengthsRight l ≡ false → BytesLent l → ⊥
 wrong l e z = true≢false (sym (right-sized l z) ∙ e)
@@ -52,19 +59,29 @@ handled-bytes p bytes l small reply {o} same = go (byteLengthsRight l) refl
         rw (same, e)
         (record {
           outcome = rw e;
-          unchanged = λ h. ap lentOf (wide .demand1 .unchanged h) ∙ sym (unchanged l e small);
-          behind = wide .demand1 .behind;
-          wrong-length = λ none. absurd (none (sized l e));
-          exactly = (λ z. (sized l e, wide .demand2 .exactly .0 z), λ a. wide .demand2 .exactly .1 (a .1));
+          plain =
+              record {
+                wrong-length = λ none. absurd (none (sized l e));
+                long = λ z. lent-bytes _ (lengths-kept p bytes (stateIn l) reply (wide-lent l (sized l e)));
+                numbers = λ z. rw (again (step p (stateIn l) reply .state)) (wide .plain);
+              };
+          unchanged = λ h. ap lentOf (wide .plain .unchanged (λ z. absurd (h z))) ∙ sym (unchanged l e small);
+          behind = wide .behind;
+          exactly = (λ z. (sized l e, wide .exactly .0 z), λ a. wide .exactly .1 (a .1));
           numbers = λ z. rw (again (step p (stateIn l) reply .state)) wide;
         })
     go false e =
         rw (same, e)
         (record {
           outcome = rw e;
+          plain =
+              record {
+                wrong-length = λ none. (refl, refl, refl, refl, refl);
+                long = λ z. absurd (wrong l e z);
+                numbers = λ z. absurd (wrong l e z);
+              };
           unchanged = λ h. refl;
           behind = refl;
-          wrong-length = λ none. refl;
           exactly = (λ z. absurd (omega arith), λ a. absurd (wrong l e (a .0)));
           numbers = λ z. absurd (wrong l e z);
         })
@@ -73,20 +90,29 @@ pub resets-bytes : (l : Lent) {o : LentReset} → o ≡ resetBytes l → ResetsB
 unfolding resetBytes reset
 resets-bytes l {o} same = go (byteLengthsRight l) refl
   where
+    wide : BytesLent l → Resets (stateIn l) (resetOut 0 (stateIn (lentOf resetState)))
+    wide z = resets (stateIn l) (rw (wide-lengths l z) (ap (resetOut 0) (again resetState)))
+
     go : (b : Bool) → byteLengthsRight l ≡ b → ResetsBytes l o
     go true e =
         rw (same, e)
         (record {
           outcome = rw e;
+          plain =
+              record {
+                wrong-length = λ none. absurd (none (sized l e));
+                long = λ z. lent-bytes resetState (subst StateLent (again resetState) (wide z .plain .long (wide-lent l z)));
+                numbers = λ z. wide z .plain;
+              };
           exactly = (λ z. sized l e, λ z. refl);
-          wrong-length = λ none. absurd (none (sized l e));
-          numbers = λ z. resets (stateIn l) (rw (wide-lengths l z) (ap (resetOut 0) (again resetState)));
+          numbers = wide;
         })
     go false e =
         rw (same, e)
         (record {
           outcome = rw e;
+          plain =
+              record { wrong-length = λ none. (refl, refl); long = λ z. absurd (wrong l e z); numbers = λ z. absurd (wrong l e z) };
           exactly = (λ z. absurd (omega arith), λ z. absurd (wrong l e z));
-          wrong-length = λ none. refl;
           numbers = λ z. absurd (wrong l e z);
         })

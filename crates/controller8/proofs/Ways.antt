@@ -15,7 +15,8 @@ use Rattle.tables.proofs.Bytes.{Below, bytes-words, length-words-of}
 use Rattle.controller.specs.State.{replyRoom, State, lengthsRight, stopped}
 use Rattle.controller.specs.Step.{out, step}
 use Rattle.controller.proofs.Steps.{step-stopped}
-use Rattle.controller8.specs.Bytes.{Lent, stateIn, lentOf, byteLengthsRight, lentOut, stepBytes, lentReset, resetBytes, BytesLent}
+use Rattle.controller8.specs.Bytes.{Lent, stateIn, lentOf, byteLengthsRight, lentOut, stepBytes, lentReset, resetBytes}
+use Rattle.controller8.specs.Plain.{BytesLent}
 
 -- Lent tables are bytes.
 pub record Small (l : Lent) : Type 0 where

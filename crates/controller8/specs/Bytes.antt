@@ -1,16 +1,13 @@
 -- Rule 1.3: block and tables lent as bytes, with the answers of the entries on numbers. Lengths are judged in bytes, exactly.
 use Prim.Native.Nat.{ℕ}
-use mathlib.Core.Path.{_≡_}
-use mathlib.Core.Logic.{_↔_}
 use mathlib.Core.Bool.{Bool, cond, not, _&&_, _||_}
 use mathlib.Core.List.{List}
-use lib.ListN.{length, drop}
+use lib.ListN.{length}
 use lib.Dec.{eqb}
 use Rattle.wire.specs.Tables.{words, bytes}
 use Rattle.settings.specs.Layout.{blockSize}
-use Rattle.controller.specs.State.{State, stopped, resetState, resetOut}
+use Rattle.controller.specs.State.{State, stopped, resetState}
 use Rattle.controller.specs.Step.{Out, out, step}
-use Rattle.controller.specs.Demands.{Accepted, Handled, Resets}
 
 -- Block and tables, all as bytes.
 pub record Lent : Type 0 where
@@ -77,35 +74,6 @@ lentReset status l = record { status = status; lent = l }
 unfoldable pub resetBytes : Lent → LentReset
 resetBytes l = cond (byteLengthsRight l) (lentReset 0 (lentOf resetState)) (lentReset 1 l)
 
--- ---- What the entries on bytes promise.
-
--- Rule 1.3: the lengths of block and tables in bytes.
-pub record BytesLent (l : Lent) : Type 0 where
-  pub block : length (l .block) ≡ 1024
-  pub staged : length (l .staged) ≡ 7936
-  pub live : length (l .live) ≡ 7936
-  pub gains : length (l .gains) ≡ 12096
-
 -- The answer and the numbers that the bytes left hold.
 abbrev pub numbersOut : LentOut → Out
 numbersOut o = out (o .status) (o .fault) (o .size) (stateIn (o .lent)) (o .reply)
-
--- One packet: rule 4.2 byte for byte; accepted exactly as on numbers, with the lengths in bytes; and with these right, all that the
--- entry on numbers promises of the numbers that the bytes hold.
-pub record HandledBytes (p : List ℕ) (l : Lent) (reply : List ℕ) (o : LentOut) : Type 0 where
-  pub outcome : o ≡ stepBytes p l reply
-  -- A status other than 0 leaves block, staged, live and gains, byte for byte, as they were.
-  pub unchanged : (o .status ≡ 0 → ⊥) → o .lent ≡ l
-  -- The reply buffer changes only where the reply is written.
-  pub behind : drop (o .size) (o .reply) ≡ drop (o .size) reply
-  -- A wrong length is refusal 1, without a reply.
-  pub wrong-length : (BytesLent l → ⊥) → o ≡ lentOut 1 0 0 l reply
-  pub exactly : (o .status ≡ 0) ↔ (BytesLent l × Accepted p (stateIn l) reply)
-  pub numbers : BytesLent l → Handled p (stateIn l) reply (numbersOut o)
-
--- Rule 5.10, on bytes.
-pub record ResetsBytes (l : Lent) (o : LentReset) : Type 0 where
-  pub outcome : o ≡ resetBytes l
-  pub exactly : (o .status ≡ 0) ↔ BytesLent l
-  pub wrong-length : (BytesLent l → ⊥) → o ≡ lentReset 1 l
-  pub numbers : BytesLent l → Resets (stateIn l) (resetOut (o .status) (stateIn (o .lent)))

@@ -27,7 +27,8 @@ ghost use Rattle.controller.specs.Step.{decision, readReply};
 ghost use Rattle.controller.specs.Internal.{PointsWrite, PointsRead, GainsWrite, GainsRead, ReadGranted, WriteGranted};
 ghost use Rattle.controller.specs.Internal.{MarkGranted};
 ghost use Rattle.controller8.specs.Bytes.{mapBytes, gainsBytes, lent, stateIn, lentOf, byteLengthsRight, stoppedBytes};
-ghost use Rattle.controller8.specs.Bytes.{lentOut, stepBytes, lentReset, HandledBytes, ResetsBytes};
+ghost use Rattle.controller8.specs.Bytes.{lentOut, stepBytes, lentReset};
+ghost use Rattle.controller8.specs.Promises.{HandledBytes, ResetsBytes};
 
 // Two bytes for each number.
 const MAP_BYTES: usize = 2 * MAP_SIZE;

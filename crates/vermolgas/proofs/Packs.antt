@@ -14,7 +14,9 @@ use Rattle.reply.specs.Reading.{ReplyAnswer, replyRefusedBy, ReplyRead}
 use Rattle.controller.specs.Mark.{rowsOut}
 use Rattle.controller.specs.Rows.{RowsPromised}
 use Rattle.controller.proofs.Fresh.{FewRows, told-few}
-use Rattle.controller8.specs.Bytes.{Lent, LentOut, byteLengthsRight, BytesLent, HandledBytes}
+use Rattle.controller8.specs.Bytes.{Lent, LentOut, byteLengthsRight}
+use Rattle.controller8.specs.Plain.{BytesLent}
+use Rattle.controller8.specs.Promises.{HandledBytes}
 use Rattle.controller8.proofs.Ways.{sized}
 use Rattle.controller8.proofs.Promises.{wrong}
 use Rattle.vermolgas.specs.Packed.{packedReading, readingIn, PackedRead, packedMade, madeIn, PackedMake, packedReply, replyIn, PackedReplyRead}

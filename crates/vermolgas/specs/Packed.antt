@@ -16,7 +16,9 @@ use Rattle.packet.specs.Promises.{PacketRead, PacketMade}
 use Rattle.reply.specs.Reading.{ReplyAnswer, replyReading, ReplyRead}
 use Rattle.controller.specs.Mark.{RowsOut, rowsTold}
 use Rattle.controller.specs.Rows.{markOf, RowsPromised}
-use Rattle.controller8.specs.Bytes.{Lent, LentOut, lentOut, stepBytes, BytesLent, HandledBytes}
+use Rattle.controller8.specs.Bytes.{Lent, LentOut, lentOut, stepBytes}
+use Rattle.controller8.specs.Plain.{BytesLent}
+use Rattle.controller8.specs.Promises.{HandledBytes}
 use Rattle.compress.specs.Compressing.{CompressOut, compressOut, compressingBytes, CompressedBytes}
 use Rattle.split.specs.Splitting.{SplitOut, splitOut, splitting, SplitBytes}
 use Rattle.upload.specs.Planning.{Sheets, PlanOut, planOut, plannedBytes, PlannedBytes}

@@ -1,6 +1,7 @@
 -- A stopped packet is refusal 1; any other is decided.
 use mathlib.Core.Path.{_≡_}
-use Rattle.controller8.specs.Bytes.{Lent, lent, LentOut, stepBytes, HandledBytes}
+use Rattle.controller8.specs.Bytes.{Lent, lent, LentOut, stepBytes}
+use Rattle.controller8.specs.Promises.{HandledBytes}
 use Rattle.controller8.proofs.Ways.{Small, running, stopped-way}
 use Rattle.controller8.proofs.Promises.{handled-bytes}
 use borrow.Author.Needs.{needs}

@@ -6,7 +6,8 @@ use lib.ListN.{length}
 use Rattle.opcode.specs.Options.{isRead}
 use Rattle.controller.proofs.Demands.{«lent» as lent-right}
 use Rattle.controller.proofs.Grants.{inside, granted, answers-read, stores-write}
-use Rattle.controller8.specs.Bytes.{lent, BytesLent}
+use Rattle.controller8.specs.Bytes.{lent}
+use Rattle.controller8.specs.Plain.{BytesLent}
 use Rattle.controller8.proofs.Ways.{Small, sized, unchanged, in-bytes}
 use borrow.Author.Needs.{needs}
 use Rattle.controller8.proofs.perform.Statement.{statement}

@@ -3,7 +3,8 @@ use mathlib.Core.Path.{_≡_, sym, _∙_}
 use mathlib.Core.Bool.{true}
 use native.Mathlib.Omega.{arith}
 use borrow.Author.Tests.{not-true, not-false}
-use Rattle.controller8.specs.Bytes.{Lent, lent, byteLengthsRight, resetBytes, BytesLent}
+use Rattle.controller8.specs.Bytes.{Lent, lent, byteLengthsRight, resetBytes}
+use Rattle.controller8.specs.Plain.{BytesLent}
 use Rattle.controller8.proofs.Ways.{sized, reset-way}
 use Rattle.controller8.proofs.Promises.{resets-bytes}
 use borrow.Author.Needs.{needs}

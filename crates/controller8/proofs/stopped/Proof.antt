@@ -2,7 +2,8 @@
 use mathlib.Core.Path.{_≡_, sym, _∙_}
 use mathlib.Core.Bool.{true}
 use borrow.Author.Tests.{not-true, not-false, lt-leb, le-leb}
-use Rattle.controller8.specs.Bytes.{Lent, lent, byteLengthsRight, BytesLent}
+use Rattle.controller8.specs.Bytes.{Lent, lent, byteLengthsRight}
+use Rattle.controller8.specs.Plain.{BytesLent}
 use Rattle.controller8.proofs.Ways.{sized, stopped-by}
 use borrow.Author.Needs.{needs}
 use Rattle.controller8.proofs.stopped.Statement.{statement}
