@@ -9,15 +9,16 @@ use borrow.Author.Tests.{eqb-true, eq-eqb}
 use lib.ListN.{length, getD, replicate}
 use lib.Dec.{eqb}
 use Rattle.runs.specs.Pairs.{expand, sumRuns, Pairs, none, pair}
-use Rattle.compress.specs.Compress.{push, compressed, Compressible, FewestPairs}
+use Rattle.compress.specs.Compress.{push, compressed}
+use Rattle.compress.specs.Plain.{Compressible, FewestPairs}
 
 -- One gain more in front of pairs: it opens a run, in front of them or of a word alone, or lengthens the first.
-data Pushed (gain : ℕ) : List ℕ → List ℕ → Type 0 where
+pub data Pushed (gain : ℕ) : List ℕ → List ℕ → Type 0 where
   opens : {ws : List ℕ} → Pushed gain ws (1 ∷ gain ∷ ws)
   alone : {run : ℕ} → Pushed gain (run ∷ []) (1 ∷ gain ∷ [])
   longer : {run : ℕ} {rest : List ℕ} → Pushed gain (run ∷ gain ∷ rest) (suc run ∷ gain ∷ rest)
 
-pushed : (gain : ℕ) (ws : List ℕ) → Pushed gain ws (push gain ws)
+pub pushed : (gain : ℕ) (ws : List ℕ) → Pushed gain ws (push gain ws)
 unfolding push
 pushed gain [] = opens
 pushed gain (run ∷ []) = alone
@@ -51,7 +52,7 @@ pushed-length alone = omega arith
 pushed-length longer = omega arith
 
 -- The same gain once more lengthens what the first opened or lengthened.
-pushed-again : {gain : ℕ} {ws vs : List ℕ} → Pushed gain ws vs → length (push gain vs) ≡ length vs
+pub pushed-again : {gain : ℕ} {ws vs : List ℕ} → Pushed gain ws vs → length (push gain vs) ≡ length vs
 unfolding push
 pushed-again {gain} opens = rw (eq-eqb gain gain refl)
 pushed-again {gain} alone = rw (eq-eqb gain gain refl)

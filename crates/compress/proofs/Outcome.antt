@@ -5,10 +5,11 @@ use mathlib.Core.Path.{_≡_, refl, sym, ap, subst, _∙_}
 use mathlib.Core.Logic.{_↔_}
 use mathlib.Core.Bool.{Bool, true, false, cond, not, _||_}
 use mathlib.Core.List.{List}
+use native.Mathlib.Nat.{mul-le-mul-left}
 use native.Mathlib.Decide.{decLt}
 use native.Mathlib.Omega.{arith}
 use borrow.Author.Tests.{ltb-false, lt-ltb, le-ltb, le-leb, eq-eqb, ne-eqb}
-use lib.ListN.{length, drop}
+use lib.ListN.{length, drop, length-append, length-drop}
 use lib.Seq.{drop-at}
 use lib.Dec.{eqb, ltb}
 use Rattle.wire.specs.First.{first}
@@ -19,8 +20,9 @@ use Rattle.wire.proofs.Tables.{length-pairs, pairs-over}
 use Rattle.wire.proofs.Tests.{told}
 use Rattle.runs.specs.Gains.{firstLarge}
 use Rattle.runs.proofs.Right.{gains-small, small-gains}
-use Rattle.compress.specs.Compress.{compressed, Compressible}
-use Rattle.compress.specs.Compressing.{CompressOut, compressOut, pairsRoom, countWrong, someLarge, compressRefusals, byteRefusals, compressedBy, compressing, compressingBytes, Promised, CompressedNumbers, BytesRight, numbersIn, CompressedBytes}
+use Rattle.compress.specs.Compress.{compressed}
+use Rattle.compress.specs.Plain.{CompressOut, Compressible, BytesRight, Promised, PlainNumbers, PlainBytes}
+use Rattle.compress.specs.Compressing.{compressOut, pairsRoom, countWrong, someLarge, compressRefusals, byteRefusals, compressedBy, compressing, compressingBytes, CompressedNumbers, numbersIn, CompressedBytes}
 use Rattle.compress.specs.Internal.{refusalsOf, Written}
 use Rattle.compress.proofs.Fewest.{compressed-two, compressed-length, fewest-pairs}
 use Rattle.compress.proofs.Writing.{Way, as-numbers, as-bytes}
@@ -60,6 +62,11 @@ behind-over : (s room : List ℕ) → drop (length s) (over s room) ≡ drop (le
 unfolding over
 behind-over s room = drop-at s _ _ refl
 
+-- They fit, so the room keeps its length.
+length-over : (s room : List ℕ) → length s ≤ length room → length (over s room) ≡ length room
+unfolding over
+length-over s room h = rw length-append (omega (arith, length-drop (length s) room))
+
 module _ {each : ℕ} {put read : List ℕ → List ℕ} (way : Way each put read) {right : Type 0} (gains room : List ℕ) (wrong : Bool)
     (tested : (wrong ≡ false) ↔ right) (can : right → Compressible gains) where
   abbrev short : Bool
@@ -85,8 +92,9 @@ module _ {each : ℕ} {put read : List ℕ → List ℕ} (way : Way each put rea
             one = λ r l. absurd (never e (tested .1 r));
             found = λ z. absurd (omega arith);
             few = omega arith;
-            refused = λ h. refl;
+            refused = λ h. (refl, refl);
             behind = refl;
+            long = refl;
           }
       go false true e f =
           record {
@@ -95,21 +103,24 @@ module _ {each : ℕ} {put read : List ℕ → List ℕ} (way : Way each put rea
             one = λ r l. refl;
             found = λ z. absurd (omega arith);
             few = omega arith;
-            refused = λ h. refl;
+            refused = λ h. (refl, refl);
             behind = refl;
+            long = refl;
           }
       go false false e f =
           let r = tested .0 e in
           let ws = compressed gains in
           let size = way .long ws (length ws / 2) (compressed-two gains) in
+          let most : length ws / 2 ≤ 2016 = omega (arith, compressed-length gains, can r .few) in
           record {
             exactly = (λ z. (r, ltb-false (length room) (each * 2016) f), λ h. refl);
             ten = (λ z. absurd (omega arith), λ w. absurd (w r));
             one = λ h l. absurd (never (lt-ltb (length room) (each * 2016) l) f);
-            few = omega (arith, compressed-length gains, can r .few);
+            few = most;
             found = λ z. rw (← size, take-over (put ws) room, way .back ws) (fewest-pairs gains (can r));
             refused = λ h. absurd (h refl);
             behind = rw (← size) (behind-over (put ws) room);
+            long = length-over (put ws) room (omega (arith, size, mul-le-mul-left each most, ltb-false (length room) (each * 2016) f));
           }
 
 -- On numbers.
@@ -141,7 +152,7 @@ module _ (gains room : List ℕ) where
       record {
         outcome = e;
         promised =
-            subst (λ (o : CompressOut). Promised 2 (λ ws. ws) (Compressible gains) gains room o) (sym (e ∙ rw judged))
+            subst (λ (o : CompressOut). PlainNumbers gains room o) (sym (e ∙ rw judged))
             (promised as-numbers gains room wrong tested (λ r. r));
       }
 
@@ -211,7 +222,7 @@ module _ (gains room : List ℕ) where
       record {
         outcome = e;
         promised =
-            subst (λ (o : CompressOut). Promised 4 words (BytesRight gains) (words gains) room o) (sym (e ∙ rw judged-bytes))
+            subst (λ (o : CompressOut). PlainBytes gains room o) (sym (e ∙ rw judged-bytes))
             (promised as-bytes (words gains) room wrong-bytes tested-bytes (λ r. r .numbers));
         numbers = λ even.
             compressed-numbers (words gains) (words room)

@@ -1,28 +1,23 @@
 -- Rule 10.2: the compressor's answer, its refusals and the room that it leaves; on 16-bit numbers, and on bytes.
-use Prim.Native.Nat.{ℕ, _*_, _/_, _%_, _≤_, _<_}
+use Prim.Native.Nat.{ℕ, _*_, _/_, _%_}
 use mathlib.Core.Path.{_≡_}
-use mathlib.Core.Logic.{_↔_}
 use mathlib.Core.Bool.{Bool, cond, not, _&&_}
 use mathlib.Core.List.{List, [], _∷_}
-use lib.ListN.{length, take, drop}
+use lib.ListN.{length}
 use lib.Dec.{eqb, leb, ltb}
 use Rattle.wire.specs.First.{first}
 use Rattle.wire.specs.Tables.{words, bytes}
 use Rattle.wire.specs.Buffers.{over}
 use Rattle.runs.specs.Gains.{firstLarge}
 use Rattle.runs.specs.Pairs.{colourGains}
-use Rattle.compress.specs.Compress.{compressed, Compressible, FewestPairs}
+use Rattle.compress.specs.Compress.{compressed}
+use Rattle.compress.specs.Plain.{CompressOut, PlainNumbers, PlainBytes}
 
 -- Rule 10.2: the words of the pairs of a whole colour, no two neighbours of it equal.
 abbrev pub pairsRoom : ℕ
 pairsRoom = 4032
 
--- A status, how many pairs there are, and the room as it is left.
-pub record CompressOut : Type 0 where
-  pub status : ℕ
-  pub pairs : ℕ
-  pub room : List ℕ
-
+-- An outcome from its fields.
 abbrev pub compressOut : ℕ → ℕ → List ℕ → CompressOut
 compressOut status pairs room = record { status = status; pairs = pairs; room = room }
 
@@ -57,28 +52,10 @@ unfoldable pub compressingBytes : List ℕ → List ℕ → CompressOut
 compressingBytes gains room =
     compressedBy (first (byteRefusals gains room)) bytes (words gains) room
 
--- What the compressor promises of a room of so many elements a pair, two of 16 bits or four bytes, in which the pairs written are found by `read`.
-pub record Promised (each : ℕ) (read : List ℕ → List ℕ) (right : Type 0) (gains room : List ℕ) (o : CompressOut) : Type 0 where
-  -- Taken exactly if count and gains are right and there is room for the pairs of a whole colour; 10 if they are not, else 1.
-  pub exactly : (o .status ≡ 0) ↔ (right × (each * 2016 ≤ length room))
-  pub ten : (o .status ≡ 10) ↔ (right → ⊥)
-  pub one : right → length room < each * 2016 → o .status ≡ 1
-  -- The pairs written are the fewest that stand for the gains, and no more than a colour has gains.
-  pub found : o .status ≡ 0 → FewestPairs gains (o .pairs) (read (take (each * o .pairs) (o .room)))
-  pub few : o .pairs ≤ 2016
-  -- A refusal writes nothing and has no pairs; behind the pairs the room is as it was.
-  pub refused : (o .status ≡ 0 → ⊥) → o ≡ compressOut (o .status) 0 room
-  pub behind : drop (each * o .pairs) (o .room) ≡ drop (each * o .pairs) room
-
 -- Rule 10.2: the promise on 16-bit numbers.
 pub record CompressedNumbers (gains room : List ℕ) (o : CompressOut) : Type 0 where
   pub outcome : o ≡ compressing gains room
-  pub promised : Promised 2 (λ ws. ws) (Compressible gains) gains room o
-
--- Rule 10.2: gains in bytes, low byte first: two for each.
-pub record BytesRight (gains : List ℕ) : Type 0 where
-  pub even : length gains % 2 ≡ 0
-  pub numbers : Compressible (words gains)
+  pub promised : PlainNumbers gains room o
 
 -- The answer, and the numbers that a room in bytes holds.
 abbrev pub numbersIn : CompressOut → CompressOut
@@ -87,5 +64,5 @@ numbersIn o = compressOut (o .status) (o .pairs) (words (o .room))
 -- Rules 1.3 and 10.2: the promise on bytes; of an even number of them all that is promised on numbers, of the numbers that the bytes hold.
 pub record CompressedBytes (gains room : List ℕ) (o : CompressOut) : Type 0 where
   pub outcome : o ≡ compressingBytes gains room
-  pub promised : Promised 4 words (BytesRight gains) (words gains) room o
+  pub promised : PlainBytes gains room o
   pub numbers : length gains % 2 ≡ 0 → CompressedNumbers (words gains) (words room) (numbersIn o)

@@ -8,7 +8,7 @@ ghost use lib.ListN.{length, drop};
 ghost use lib.Seq.{sets};
 ghost use Rattle.wire.specs.Numbers.{wordAt};
 ghost use Rattle.wire.specs.Tables.{words, bytes};
-ghost use Rattle.compress.specs.Compressing.{someLarge, compressOut, CompressedBytes};
+ghost use Rattle.compress.specs.Compressing.{someLarge, CompressedBytes};
 ghost use Rattle.compress.specs.Internal.{lead, Written};
 
 // The bytes of a room.
@@ -74,7 +74,7 @@ fn write(gains: &[u8], pairs: &mut [u8]) -> usize
 // Compresses gains: any gains, any room.
 pub fn compress(gains: &[u8], pairs: &mut [u8]) -> Compressed
     ensures { λ r. ⌜ CompressedBytes (now (gains .entry)) (now (pairs .entry))
-        (compressOut (r .status) (r .pairs) (now (pairs .exit))) ⌝ }
+        (record { status = r .status; pairs = r .pairs; room = now (pairs .exit) }) ⌝ }
 {
     let odd = gains.len() % 2 != 0;
     let large = some_large(gains);

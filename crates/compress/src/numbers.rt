@@ -6,7 +6,7 @@ ghost use mathlib.Core.List.{[], _∷_};
 ghost use Prim.Native.Nat.{_+_, _*_, _≤_, _<_};
 ghost use lib.ListN.{length, drop, getD};
 ghost use lib.Seq.{sets};
-ghost use Rattle.compress.specs.Compressing.{someLarge, compressOut, CompressedNumbers};
+ghost use Rattle.compress.specs.Compressing.{someLarge, CompressedNumbers};
 ghost use Rattle.compress.specs.Internal.{lead, Written};
 
 // Whether a gain is too large. Without an early return a compiler takes many gains at a time.
@@ -63,7 +63,7 @@ fn write(gains: &[u16], pairs: &mut [u16]) -> usize
 // Compresses gains: any gains, any room.
 pub fn compress(gains: &[u16], pairs: &mut [u16]) -> Compressed
     ensures { λ r. ⌜ CompressedNumbers (now (gains .entry)) (now (pairs .entry))
-        (compressOut (r .status) (r .pairs) (now (pairs .exit))) ⌝ }
+        (record { status = r .status; pairs = r .pairs; room = now (pairs .exit) }) ⌝ }
 {
     let large = some_large(gains);
     let status = super::refusal(false, gains.len(), large, pairs.len() < PAIRS_ROOM);

@@ -36,7 +36,8 @@ use Rattle.controller.proofs.InRange.{colour-long}
 use Rattle.batch.specs.Pairs.{pairsData, pairsPacket}
 use Rattle.split.specs.Split.{CutUp, Splittable}
 use Rattle.split.proofs.Cutting.{cut-up}
-use Rattle.compress.specs.Compress.{compressed, Compressible}
+use Rattle.compress.specs.Compress.{compressed}
+use Rattle.compress.specs.Plain.{Compressible}
 use Rattle.compress.proofs.Fewest.{sum-compressed, compressed-pairs}
 use Rattle.delivery.specs.Gains.{Blended, GainsDelivered}
 use Rattle.delivery.specs.Delivery.{AllStored}

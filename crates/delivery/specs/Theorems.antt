@@ -17,7 +17,8 @@ use Rattle.upload.specs.Plan.{packetsOf, batchOf, EachAnnounced}
 use Rattle.upload.specs.Judge.{MapOf}
 use Rattle.upload.specs.Examples.{Examples}
 use Rattle.runs.specs.Pairs.{expand, sumRuns}
-use Rattle.compress.specs.Compress.{compressed, Compressible}
+use Rattle.compress.specs.Compress.{compressed}
+use Rattle.compress.specs.Plain.{Compressible}
 use Rattle.split.specs.Split.{Splittable}
 use Rattle.delivery.specs.Delivery.{Delivered}
 use Rattle.delivery.specs.Gains.{GainsDelivered}

@@ -19,7 +19,8 @@ use Rattle.controller.specs.Rows.{markOf, RowsPromised}
 use Rattle.controller8.specs.Bytes.{Lent, LentOut, lentOut, stepBytes}
 use Rattle.controller8.specs.Plain.{BytesLent}
 use Rattle.controller8.specs.Promises.{HandledBytes}
-use Rattle.compress.specs.Compressing.{CompressOut, compressOut, compressingBytes, CompressedBytes}
+use Rattle.compress.specs.Plain.{CompressOut}
+use Rattle.compress.specs.Compressing.{compressOut, compressingBytes, CompressedBytes}
 use Rattle.split.specs.Splitting.{SplitOut, splitOut, splitting, SplitBytes}
 use Rattle.upload.specs.Planning.{Sheets, PlanOut, planOut, plannedBytes, PlannedBytes}
 
