@@ -4,5 +4,6 @@ pub mod Family
 pub mod Lent
 pub mod Packet
 pub mod Pairs
+pub mod Plain
 pub mod Spent
 pub mod Writing

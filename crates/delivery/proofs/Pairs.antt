@@ -34,7 +34,7 @@ use Rattle.controller.specs.Calls.{Call, callsOf, stateAfterAll}
 use Rattle.controller.proofs.Demands.{lent, refusals-numbered}
 use Rattle.controller.proofs.InRange.{colour-long}
 use Rattle.batch.specs.Pairs.{pairsData, pairsPacket}
-use Rattle.split.specs.Split.{CutUp, Splittable}
+use Rattle.split.specs.Plain.{CutUp, Splittable}
 use Rattle.split.proofs.Cutting.{cut-up}
 use Rattle.compress.specs.Compress.{compressed}
 use Rattle.compress.specs.Plain.{Compressible}

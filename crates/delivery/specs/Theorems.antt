@@ -19,7 +19,7 @@ use Rattle.upload.specs.Examples.{Examples}
 use Rattle.runs.specs.Pairs.{expand, sumRuns}
 use Rattle.compress.specs.Compress.{compressed}
 use Rattle.compress.specs.Plain.{Compressible}
-use Rattle.split.specs.Split.{Splittable}
+use Rattle.split.specs.Plain.{Splittable}
 use Rattle.delivery.specs.Delivery.{Delivered}
 use Rattle.delivery.specs.Gains.{GainsDelivered}
 

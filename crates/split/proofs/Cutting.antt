@@ -15,7 +15,8 @@ use Rattle.runs.proofs.Right.{pairs-even}
 use Rattle.upload.specs.Plan.{joined, EachAnnounced}
 use Rattle.batch.specs.Pairs.{pairsPacket}
 use Rattle.batch.proofs.Writing.{pairs-form}
-use Rattle.split.specs.Split.{packetWords, morePairs, splitFrom, splitPackets, splitBatch, CutUp, last, more, Splittable}
+use Rattle.split.specs.Split.{packetWords, morePairs, splitFrom, splitPackets, splitBatch}
+use Rattle.split.specs.Plain.{CutUp, last, more, Splittable}
 
 double : (k : ℕ) → 2 * suc k ≡ suc (suc (2 * k))
 double k = omega arith

@@ -1,4 +1,5 @@
 pub mod Cutting
+pub mod Determined
 pub mod Outcome
 pub mod Sums
 pub mod Writing

@@ -8,7 +8,7 @@ use mathlib.Core.List.{List}
 use native.Mathlib.Decide.{ℕ-discrete}
 use native.Mathlib.Omega.{arith}
 use borrow.Author.Tests.{eqb-true, eqb-false, eq-eqb, ne-eqb, ltb-true, ltb-false, le-ltb, not-false}
-use lib.ListN.{length}
+use lib.ListN.{length, length-append, length-drop}
 use lib.Seq.{drop-at}
 use lib.Dec.{eqb, ltb}
 use Rattle.wire.specs.First.{first}
@@ -19,9 +19,9 @@ use Rattle.wire.proofs.Laws.{take-over}
 use Rattle.wire.proofs.Tests.{told, or-left}
 use Rattle.runs.specs.Pairs.{sumRuns, pairFault, runsBeyond}
 use Rattle.runs.proofs.Right.{fault-pairs, pairs-fault, pairs-even}
-use Rattle.batch.proofs.Writing.{pairs-form}
-use Rattle.split.specs.Split.{splitBatch, PairsRight, Splittable}
-use Rattle.split.specs.Splitting.{batchRoom, SplitOut, splitOut, valuesWrong, splitRefusals, splitting, SplitRight, SplitBytes}
+use Rattle.split.specs.Split.{splitPackets, splitBatch}
+use Rattle.split.specs.Plain.{SplitOut, PairsRight, Splittable}
+use Rattle.split.specs.Splitting.{batchRoom, splitOut, valuesWrong, splitRefusals, splitting, SplitRight, SplitBytes}
 use Rattle.split.specs.Internal.{refusalsOf, splitDone}
 use Rattle.split.proofs.Cutting.{cut-up, cut-announced, split-small}
 
@@ -69,19 +69,20 @@ module _ (each colour start : ℕ) (lent ws batch : List ℕ) where
   turned-down number some e wrong nine ten twelve one =
       record {
         outcome = sym e;
-        exactly = (λ z. absurd (some z), λ r. absurd (wrong r));
-        nine = nine;
-        ten = ten;
-        twelve = twelve;
-        one = one;
-        cut = λ z. absurd (some z);
-        counted = λ z. absurd (some z);
-        written = λ z. absurd (some z);
-        walked = λ z. absurd (some z);
-        bytes-sent = pairs-form colour;
+        plain =
+            record {
+              exactly = (λ z. absurd (some z), λ r. absurd (wrong r));
+              nine = nine;
+              ten = ten;
+              twelve = twelve;
+              one = one;
+              found = λ z. absurd (some z);
+              refused = λ z. (refl, refl, refl);
+              behind = refl;
+              long = refl;
+            };
         few = omega arith;
-        refused = λ z. refl;
-        behind = refl;
+        walked = λ z. absurd (some z);
       }
 
   taken : answer ≡ splitDone colour start ws batch → Whole → Splittable colour start ws → 8234 ≤ length batch → Right (splitDone colour start ws batch)
@@ -90,19 +91,29 @@ module _ (each colour start : ℕ) (lent ws batch : List ℕ) where
       let c = cut-up colour start ws (pairs-even (can .right .pairs)) (can .right .some) in
       record {
         outcome = sym e;
-        exactly = (λ z. (whole, can, room), λ r. refl);
-        nine = (λ z. absurd (omega arith), λ h. absurd (h whole));
-        ten = λ h. (λ z. absurd (omega arith), λ n. absurd (n (can .right)));
-        twelve = λ h p l. absurd (omega (arith, can .within));
-        one = λ h s l. absurd (omega arith);
-        cut = λ z. c;
-        counted = λ z. refl;
-        written = λ z. take-over (splitBatch colour start ws) batch;
-        walked = λ z. cut-announced c _;
-        bytes-sent = pairs-form colour;
+        plain =
+            record {
+              exactly = (λ z. (whole, can, room), λ r. refl);
+              nine = (λ z. absurd (omega arith), λ h. absurd (h whole));
+              ten = λ h. (λ z. absurd (omega arith), λ n. absurd (n (can .right)));
+              twelve = λ h p l. absurd (omega (arith, can .within));
+              one = λ h s l. absurd (omega arith);
+              found = λ z.
+                  record {
+                    sent = splitPackets colour start ws;
+                    cut = c;
+                    counted = refl;
+                    size = refl;
+                    written = take-over (splitBatch colour start ws) batch;
+                  };
+              refused = λ n. absurd (n refl);
+              behind = drop-at (splitBatch colour start ws) _ _ refl;
+              long =
+                  let size = split-small colour start ws can .1 in
+                  rw length-append (omega (arith, length-drop (length (splitBatch colour start ws)) batch));
+            };
         few = split-small colour start ws can;
-        refused = λ n. absurd (n refl);
-        behind = drop-at (splitBatch colour start ws) _ _ refl;
+        walked = λ z. cut-announced c _;
       }
 
   -- The definition's answer keeps the promise.
@@ -163,7 +174,7 @@ module _ (each colour start : ℕ) (lent ws batch : List ℕ) where
 
   pub fit : number ≡ 0 → Whole × Splittable colour start ws × (8234 ≤ length batch)
   unfolding splitting
-  fit e = splits e refl .exactly .0 refl
+  fit e = splits e refl .plain .exactly .0 refl
 
 -- On bytes: of an even number of them the tests of their number are those of the words'.
 module _ (colour start : ℕ) (pairs batch : List ℕ) where

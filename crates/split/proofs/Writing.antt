@@ -13,7 +13,8 @@ use Rattle.runs.proofs.Expand.{sum-append}
 use Rattle.upload.specs.Plan.{joined}
 use Rattle.batch.specs.Pairs.{pairsPacket}
 use Rattle.batch.specs.Writing.{PairsPut}
-use Rattle.split.specs.Split.{packetWords, splitFrom, splitPackets, splitBatch, Splittable}
+use Rattle.split.specs.Split.{packetWords, splitFrom, splitPackets, splitBatch}
+use Rattle.split.specs.Plain.{Splittable}
 use Rattle.split.specs.Splitting.{splitOut}
 use Rattle.split.specs.Internal.{splitDone}
 use Rattle.split.proofs.Cutting.{split-next, split-small, pairs-long}

@@ -1,30 +1,23 @@
 -- Rule 10.4: the splitter's answer, its refusals and the batch that it leaves; from pairs as 16-bit numbers, and as bytes.
-use Prim.Native.Nat.{ℕ, _+_, _*_, _/_, _%_, _≤_, _<_}
+use Prim.Native.Nat.{ℕ, _%_, _≤_}
 use mathlib.Core.Path.{_≡_}
-use mathlib.Core.Logic.{_↔_}
 use mathlib.Core.Bool.{Bool, cond, not, _||_}
 use mathlib.Core.List.{List, [], _∷_}
-use lib.ListN.{length, take, drop}
+use lib.ListN.{length, drop}
 use lib.Dec.{eqb, ltb}
 use Rattle.wire.specs.First.{first}
-use Rattle.wire.specs.Tables.{words, bytes}
+use Rattle.wire.specs.Tables.{words}
 use Rattle.wire.specs.Buffers.{over}
-use Rattle.runs.specs.Pairs.{sumRuns, pairFault, runsBeyond}
-use Rattle.upload.specs.Plan.{joined, EachAnnounced}
-use Rattle.batch.specs.Pairs.{pairsPacket}
-use Rattle.split.specs.Split.{splitPackets, splitBatch, CutUp, PairsRight, Splittable}
+use Rattle.runs.specs.Pairs.{pairFault, runsBeyond}
+use Rattle.upload.specs.Plan.{EachAnnounced}
+use Rattle.split.specs.Split.{splitPackets, splitBatch}
+use Rattle.split.specs.Plain.{SplitOut, SplitPlain}
 
 -- Rule 10.4: the bytes of the packets of a whole colour in runs of 1.
 abbrev pub batchRoom : ℕ
 batchRoom = 8234
 
--- A status, how many packets there are and how many bytes they have, and the batch as it is left.
-pub record SplitOut : Type 0 where
-  pub status : ℕ
-  pub packets : ℕ
-  pub bytes : ℕ
-  pub batch : List ℕ
-
+-- An outcome from its fields.
 abbrev pub splitOut : ℕ → ℕ → ℕ → List ℕ → SplitOut
 splitOut status packets bytes batch = record { status = status; packets = packets; bytes = bytes; batch = batch }
 
@@ -53,30 +46,13 @@ unfoldable pub splitting : (each colour start : ℕ) → List ℕ → List ℕ �
 splitting each colour start lent ws batch =
     splitBy (first (splitRefusals colour start (not (eqb (length lent % each) 0)) ws batch)) colour start ws batch
 
--- What the splitter promises.
+-- What the splitter promises: the definition's outcome, what is said of it apart from that, how large it can get, and that each packet in the batch
+-- has as many bytes as it announces.
 pub record SplitRight (each colour start : ℕ) (lent ws batch : List ℕ) (o : SplitOut) : Type 0 where
   pub outcome : o ≡ splitting each colour start lent ws batch
-  -- Taken exactly if pairs, colour and start are right and the batch has room; else the first that applies.
-  pub exactly : (o .status ≡ 0) ↔ ((length lent % each ≡ 0) × Splittable colour start ws × (8234 ≤ length batch))
-  pub nine : (o .status ≡ 9) ↔ (length lent % each ≡ 0 → ⊥)
-  pub ten : length lent % each ≡ 0 → (o .status ≡ 10) ↔ (PairsRight colour ws → ⊥)
-  pub twelve : length lent % each ≡ 0 → PairsRight colour ws → 2016 < start + sumRuns ws → o .status ≡ 12
-  pub one : length lent % each ≡ 0 → Splittable colour start ws → length batch < 8234 → o .status ≡ 1
-  -- The packets written: full ones, of 250 words, and then one of the rest, each going on behind the gains of the last; one behind the other in the batch,
-  -- where each has as many bytes as it announces.
-  pub cut : o .status ≡ 0 → CutUp colour start ws (splitPackets colour start ws)
-  pub counted : o .status ≡ 0 → o .packets ≡ length (splitPackets colour start ws)
-  pub written : o .status ≡ 0 → take (o .bytes) (o .batch) ≡ joined (splitPackets colour start ws)
-  pub walked : o .status ≡ 0 → EachAnnounced (drop (o .bytes) (o .batch)) (splitPackets colour start ws)
-  -- A packet byte by byte: header 14h and 2Bh, how many bytes follow, flag 1, the colour, how many words, where they start, and the words.
-  pub bytes-sent : (from : ℕ) (vs : List ℕ)
-      → pairsPacket colour from vs
-      ≡ 0x14 ∷ 0x2B ∷ (6 + 2 * length vs) % 256 ∷ (6 + 2 * length vs) / 256 ∷ 1 ∷ colour
-      ∷ length vs % 256 ∷ length vs / 256 ∷ from % 256 ∷ from / 256 ∷ bytes vs
+  pub plain : SplitPlain each colour start lent ws batch o
   pub few : (o .packets ≤ 17) × (o .bytes ≤ 8234)
-  -- A refusal writes nothing and has no packets; behind the packets the batch is as it was.
-  pub refused : (o .status ≡ 0 → ⊥) → o ≡ splitOut (o .status) 0 0 batch
-  pub behind : drop (o .bytes) (o .batch) ≡ drop (o .bytes) batch
+  pub walked : o .status ≡ 0 → EachAnnounced (drop (o .bytes) (o .batch)) (splitPackets colour start ws)
 
 -- Rule 10.4: the promise on pairs of 16-bit numbers.
 abbrev pub SplitNumbers : ℕ → ℕ → List ℕ → List ℕ → SplitOut → Type 0

@@ -5,7 +5,7 @@ ghost use mathlib.Core.Path.{_≡_};
 ghost use Prim.Native.Nat.{_+_, _≤_};
 ghost use lib.ListN.{length, take, drop};
 ghost use Rattle.runs.specs.Pairs.{colourGains, sumRuns};
-ghost use Rattle.split.specs.Split.{Splittable};
+ghost use Rattle.split.specs.Plain.{Splittable};
 ghost use Rattle.split.specs.Splitting.{batchRoom, splitOut, SplitNumbers};
 ghost use Rattle.split.specs.Internal.{splitDone};
 
@@ -53,7 +53,7 @@ fn write(colour: usize, start: usize, pairs: &[u16], batch: &mut [u8]) -> Split
 // Cuts pairs into packets for a colour, from a start on: any colour, any start, any pairs, any batch.
 pub fn split(colour: u32, start: u32, pairs: &[u16], batch: &mut [u8]) -> Split
     ensures { λ r. ⌜ SplitNumbers colour start (now (pairs .entry)) (now (batch .entry))
-        (splitOut (r .status) (r .packets) (r .bytes) (now (batch .exit))) ⌝ }
+        (record { status = r .status; packets = r .packets; bytes = r .bytes; batch = now (batch .exit) }) ⌝ }
 {
     let fault = runs::numbers::pair_fault(pairs);
     let wrong = super::values_wrong(colour, pairs.len(), fault);

@@ -21,7 +21,8 @@ use Rattle.controller8.specs.Plain.{BytesLent}
 use Rattle.controller8.specs.Promises.{HandledBytes}
 use Rattle.compress.specs.Plain.{CompressOut}
 use Rattle.compress.specs.Compressing.{compressOut, compressingBytes, CompressedBytes}
-use Rattle.split.specs.Splitting.{SplitOut, splitOut, splitting, SplitBytes}
+use Rattle.split.specs.Plain.{SplitOut}
+use Rattle.split.specs.Splitting.{splitOut, splitting, SplitBytes}
 use Rattle.upload.specs.Planning.{Sheets, PlanOut, planOut, plannedBytes, PlannedBytes}
 
 -- ---- Reading, rule 2.6.
