@@ -5,7 +5,8 @@ ghost use Prim.Native.Nat.{_+_, _<_, _≤_};
 ghost use lib.ListN.{length, take, drop};
 ghost use Rattle.wire.specs.Buffers.{Overwrites};
 ghost use Rattle.reply.specs.Reply.{replyBytes};
-ghost use Rattle.reply.specs.Reading.{replyAnswer, replyRefusedBy, ReplyRead, sumSize, sumWrong};
+ghost use Rattle.reply.specs.Answer.{replyAnswer, replyRefusedBy};
+ghost use Rattle.reply.specs.Reading.{ReplyRead, sumSize, sumWrong};
 
 // What a reply says: its status, and the place and the size of its data; or the number of why it is none, which names no place.
 pub enum ReplyReading {

@@ -10,7 +10,8 @@ use Rattle.packet.specs.Reading.{Answer, commandAt, refusedBy}
 use Rattle.packet.specs.Making.{Made}
 use Rattle.packet.specs.Promises.{PacketRead, PacketMade}
 use Rattle.packet.proofs.Frames.{refused-some}
-use Rattle.reply.specs.Reading.{ReplyAnswer, replyRefusedBy, ReplyRead}
+use Rattle.reply.specs.Answer.{ReplyAnswer, replyRefusedBy}
+use Rattle.reply.specs.Reading.{ReplyRead}
 use Rattle.controller.specs.Mark.{rowsOut}
 use Rattle.controller.specs.Rows.{RowsPromised}
 use Rattle.controller.proofs.Fresh.{FewRows, told-few}

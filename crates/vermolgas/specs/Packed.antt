@@ -13,7 +13,8 @@ use Rattle.packet.specs.Frame.{opcodeOf, optionsOf, dataOf}
 use Rattle.packet.specs.Reading.{Answer, reading}
 use Rattle.packet.specs.Making.{Made, made}
 use Rattle.packet.specs.Promises.{PacketRead, PacketMade}
-use Rattle.reply.specs.Reading.{ReplyAnswer, replyReading, ReplyRead}
+use Rattle.reply.specs.Answer.{ReplyAnswer}
+use Rattle.reply.specs.Reading.{replyReading, ReplyRead}
 use Rattle.controller.specs.Mark.{RowsOut, rowsTold}
 use Rattle.controller.specs.Rows.{markOf, RowsPromised}
 use Rattle.controller8.specs.Bytes.{Lent, LentOut, lentOut, stepBytes}

@@ -5,7 +5,8 @@ use mathlib.Core.Bool.{not}
 use native.Mathlib.Omega.{arith}
 use lib.Dec.{eqb}
 use borrow.Author.Needs.{needs}
-use Rattle.reply.specs.Reading.{ReplyAnswer, replyReading}
+use Rattle.reply.specs.Answer.{ReplyAnswer}
+use Rattle.reply.specs.Reading.{replyReading}
 use Rattle.reply.proofs.Within.{reply-within}
 use Rattle.vermolgas.proofs.Packs.{reply-packed, reply-refused}
 use Rattle.vermolgas.proofs.vermolgas_read_reply.Statement.{statement}
