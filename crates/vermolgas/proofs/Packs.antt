@@ -117,7 +117,7 @@ module _ (r : List ℕ) (sum : Bool) (n : ℕ) where
   -- A refusal's number isn't 0, since it has no place.
   pub reply-refused : n < 256 → ReplyRead r sum (replyRefusedBy n) → PackedReplyRead r sum n
   reply-refused h read =
-      let some : n ≡ 0 → ⊥ = λ z. omega (arith, read .content z .1) in
+      let some : n ≡ 0 → ⊥ = λ z. omega (arith, read .plain .place z) in
       let number : n % 256 ≡ n = omega arith in
       let status-in : n / 256 % 256 ≡ 0 = omega arith in
       let size-in : n / 65536 % 65536 ≡ 0 = omega arith in

@@ -60,7 +60,7 @@ add-result c = omega (arith, small c)
 returns-2 : tie.Need-returns-2
 returns-2 c =
     let read = rw (c .before .r .given .1) at (c .before .before .before .read-reply .ensures) in
-    reply-packed _ _ _ _ _ (omega arith) (omega arith) (omega (arith, small c)) (rw (read .content refl .1) at read)
+    reply-packed _ _ _ _ _ (omega arith) (omega arith) (omega (arith, small c)) (rw (read .plain .place refl) at read)
 
 pub vermolgas-read-reply-spec : {M : Type 1} → statement M
 vermolgas-read-reply-spec =
