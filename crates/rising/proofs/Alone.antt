@@ -167,4 +167,4 @@ module _ (l : List ℕ) (b : (k : ℕ) → getD (written l) k 0 < 256) (answer :
       go (fine z p) = rw (z, eq-eqb answer 0 (omega arith))
 
   pub told : RisingTold l answer
-  told = record { judged = is; exactly = exactly; nine = nine; ten = ten; stored = stored }
+  told = record { judged = is; plain = record { exactly = exactly; nine = nine; ten = ten }; stored = stored }

@@ -1,15 +1,13 @@
 -- Rule 5.5: the rising test of 35h called alone, on the 188 bytes of its two lists: what the write that carries them in mode 1 is judged by.
 use Prim.Native.Nat.{ℕ, _+_, _*_, _<_}
 use mathlib.Core.Path.{_≡_}
-use mathlib.Core.Logic.{_↔_}
 use mathlib.Core.List.{List, _∷_}
 use lib.ListN.{length, getD}
 use lib.Dec.{eqb}
 use Rattle.wire.specs.First.{first}
 use Rattle.opcode.specs.Judgement.{judgement, faultPlace}
-use Rattle.opcode.specs.Allowed.{Allowed}
-use Rattle.opcode.specs.Faults.{FirstFault}
 use Rattle.settings.specs.Ranges.{listsRise}
+use Rattle.rising.specs.Plain.{RisingPlain}
 
 -- The write: its opcode, its options, which are bit 4 alone, a length field (rule 2.2), and its data, the mode 1 in front of the lists.
 abbrev pub opcode : ℕ
@@ -35,11 +33,7 @@ packed number fault = number + 4294967296 * fault
 -- Rules 4.1, 4.6 and 5.5: what the entry promises of its answer.
 pub record RisingTold (lists : List ℕ) (answer : ℕ) : Type 0 where
   pub judged : answer ≡ packed (refusal lists) (place lists)
-  -- Apart from the tests: 0 exactly if such a write may carry the lists, 9 exactly if they are not 188 bytes, and else 10 with the place of the
-  -- first entry that is not above the one before it, as rule 4.6 counts it.
-  pub exactly : (answer ≡ 0) ↔ Allowed 0x35 16 (1 ∷ lists)
-  pub nine : (answer ≡ 9) ↔ (length lists ≡ 188 → ⊥)
-  pub ten : (answer ≡ 0 → ⊥) → (answer ≡ 9 → ⊥) → (fault : ℕ) × (answer ≡ 10 + 4294967296 * fault) × FirstFault 0x35 16 (1 ∷ lists) fault
+  pub plain : RisingPlain lists answer
   -- Rule 4.1, 1: where the same bytes are stored as the lists of a shape, refusal 1's test of the lists decides alike.
   pub stored : (block : List ℕ) (shape : ℕ) → length lists ≡ 188 → ((k : ℕ) → k < 188 → getD block (shape + 5 + k) 0 ≡ getD lists k 0)
       → eqb answer 0 ≡ listsRise block shape

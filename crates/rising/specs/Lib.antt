@@ -1,2 +1,3 @@
 -- The rising test of 35h, called alone.
+pub mod Plain
 pub mod Alone
