@@ -46,14 +46,14 @@ few-compressed (pair {run = suc n} {gain = gain} {rest = rest} some most small b
 few-compressed (pair {run = zero} some most small behind) h = absurd (omega arith)
 
 -- Rule 10.1: the fewest pairs of gains are unique.
+fewest-compressed : {gains : List ℕ} {n : ℕ} {ws : List ℕ} → FewestPairs gains n ws → ws ≡ compressed gains
+fewest-compressed {gains} {n} {ws} f =
+    let no-fewer : length ws ≤ length (compressed gains) = omega (arith, f .fewest (compressed gains) (expand-compressed gains)) in
+    few-compressed (f .sent) (rw (f .expands) no-fewer) ∙ ap compressed (f .expands)
+
 pub fewest-one : {gains : List ℕ} {m n : ℕ} {ws vs : List ℕ} → FewestPairs gains m ws → FewestPairs gains n vs → (m ≡ n) × (ws ≡ vs)
-fewest-one {gains} {m} {n} {ws} {vs} a b =
-    let one : (us : List ℕ) (k : ℕ) → FewestPairs gains k us → us ≡ compressed gains =
-    λ us k f.
-    let least : length us ≤ length (compressed (expand us)) = rw (f .expands) (f .fewest (compressed gains) (expand-compressed gains)) in
-    few-compressed (f .sent) least ∙ ap compressed (f .expands)
-    in
-    let same : ws ≡ vs = one ws m a ∙ sym (one vs n b) in
+fewest-one {ws = ws} {vs = vs} a b =
+    let same : ws ≡ vs = fewest-compressed a ∙ sym (fewest-compressed b) in
     (omega (arith, a .many, b .many, ap length same), same)
 
 -- Two numbers that are equal if a statement holds, and if it does not, are equal.
