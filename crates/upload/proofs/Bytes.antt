@@ -26,7 +26,7 @@ packet-form n wanted p e f =
     rw (long, append-nil (bytes pts))
 
 -- Numbers below a bound, in parts of a list and in lists together.
-below-take : {b : ℕ} (n : ℕ) (l : List ℕ) → 0 < b → ((k : ℕ) → getD l k 0 < b) → (k : ℕ) → getD (take n l) k 0 < b
+pub below-take : {b : ℕ} (n : ℕ) (l : List ℕ) → 0 < b → ((k : ℕ) → getD l k 0 < b) → (k : ℕ) → getD (take n l) k 0 < b
 below-take zero l z h k = z
 below-take (suc n) [] z h k = z
 below-take (suc n) (x ∷ l) z h zero = h 0

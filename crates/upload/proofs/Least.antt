@@ -8,7 +8,8 @@ use borrow.Author.Tests.{leb-true, leb-false}
 use lib.ListN.{length, drop, getD, length-drop}
 use lib.Seq.{drop-cons, drop-drop}
 use lib.Dec.{leb}
-use Rattle.upload.specs.Cost.{best, least, rooms, more, SmallestCount}
+use Rattle.upload.specs.Cost.{best, least, rooms, more}
+use Rattle.upload.specs.Plain.{SmallestCount}
 use Rattle.upload.proofs.Best.{best-falls, best-end}
 
 -- The least bytes from a point on, and at the end, out of all of them. They are those at the front for the points from there on;

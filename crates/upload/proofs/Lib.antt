@@ -17,4 +17,6 @@ pub mod Placed
 pub mod Outcome
 pub mod RoomMeans
 pub mod Examples
+pub mod Plain
+pub mod Determined
 pub mod Small

@@ -8,7 +8,7 @@ use mathlib.Core.Bool.{Bool, true, false}
 use mathlib.Core.List.{List, [], _∷_, _++_}
 use native.Mathlib.Omega.{arith}
 use borrow.Author.Tests.{eqb-true, eq-eqb, ne-eqb, le-leb, le-ltb, eqb-false}
-use lib.ListN.{length, take, drop, getD, length-append, length-map, length-take}
+use lib.ListN.{length, take, drop, getD, length-append, length-map, length-take, length-drop}
 use lib.Seq.{drop-at, take-append-le}
 use lib.Dec.{eqb}
 use Rattle.wire.specs.First.{first}
@@ -17,15 +17,17 @@ use Rattle.wire.specs.Tables.{halves, words, bytes, longs, longBytes}
 use Rattle.wire.proofs.Laws.{take-over}
 use Rattle.wire.proofs.Tables.{length-pairs, length-halves, pairs-halves, halves-drop, halves-over, pairs-over, bytes-longs, long-at}
 use Rattle.wire.proofs.Tests.{told, or-left}
-use Rattle.upload.specs.Cost.{differs, rooms, choices}
+use Rattle.upload.specs.Cost.{differs, best, rooms, choices}
 use Rattle.upload.specs.Plan.{Part, planOf, followed, planNumbers, packetFor, packetsOf, joined, batchOf}
 use Rattle.upload.specs.Judge.{MapOf}
-use Rattle.upload.specs.Planning.{Sheets, sheets, sheetsIn, sheetBytes, bytePlanOut, writes, plannedBy, pointsWrong, lengths, lengthsWrong, refusalsWith, planRefusals, bytePlanRefusals, PlanOut, planOut, PointsRight, ListsRight, NumbersRight, BytesRight, PlanRefusals, firsts, roomOf, choicesOf, planned, plannedBytes, MapsLent, Measured, Followable, Written, Fewest, PlanChosen, Planned, PlannedBytes}
+use Rattle.upload.specs.Parts.{InOrder, none, next}
+use Rattle.upload.specs.Plain.{Sheets, PlanOut, PointsRight, ListsRight, NumbersRight, BytesRight, Nothing, PlanRefusals, LeastFrom, Fewest, PlanChosen, PlanDone}
+use Rattle.upload.specs.Planning.{sheets, sheetsIn, sheetBytes, bytePlanOut, writes, overAll, plannedBy, pointsWrong, lengths, lengthsWrong, refusalsWith, planRefusals, bytePlanRefusals, planOut, firsts, roomOf, choicesOf, planned, plannedBytes, MapsLent, Measured, MeasuredBytes, Followable, Written, Planned, PlannedBytes}
 use Rattle.upload.proofs.Lists.{demand3, plan-in-order, plan-cost, plan-bound, batch-cost, batch-bound, plan-equal}
 use Rattle.upload.proofs.Choice.{plan-chosen, chosen-only}
-use Rattle.upload.proofs.RoomMeans.{room-means, choices-mean}
+use Rattle.upload.proofs.RoomMeans.{written-at, least-from, room-means, choices-mean}
 use Rattle.upload.proofs.Differs.{differs-long}
-use Rattle.upload.proofs.Rooms.{length-firsts, firsts-all, length-choices, AllMeasured}
+use Rattle.upload.proofs.Rooms.{length-firsts, firsts-at, firsts-all, length-choices, AllMeasured}
 use Rattle.upload.proofs.Walk.{length-numbers, followed-plan}
 use Rattle.upload.proofs.Placed.{placed}
 
@@ -36,7 +38,12 @@ not-refused r e =
       exactly = (λ z. r, λ r. e);
       wrong-points = λ w. absurd (w (r .0));
       wrong-length = λ p w. absurd (w (r .1));
+      refused = λ w. absurd (w e);
     }
+
+-- Nothing answered, nothing changed.
+nothing : (number : ℕ) (s : Sheets) → Nothing s (planOut number 0 0 s)
+nothing number s = record { packets = refl; bytes = refl; plan = refl; room = refl; choices = refl; batch = refl }
 
 -- The tests of points and of lengths say what is right.
 points-tested : (n : ℕ) → (pointsWrong n ≡ false) ↔ PointsRight n
@@ -46,6 +53,14 @@ points-tested n = (
       record { some = omega arith; few = search (told, e) },
   λ r. rw (ne-eqb n 0 (λ e. omega (arith, r .some)), le-ltb 1984 n (r .few)),
 )
+
+-- Whether a test says no, and so whether what it says is right.
+tested : {Right : Type 0} (b : Bool) → (b ≡ false) ↔ Right → Dec Right
+tested true t = no (λ r. let z : _≡_ {A = ℕ} 0 1 = cc (t .1 r) in omega arith)
+tested false t = yes (t .0 refl)
+
+pub points-decided : (n : ℕ) → Dec (PointsRight n)
+points-decided n = tested (pointsWrong n) (points-tested n)
 
 module _ (each plans places n : ℕ) (held wanted : List ℕ) (s : Sheets) where
   abbrev asked : List (ℕ × Bool)
@@ -86,6 +101,9 @@ module _ (each plans places n : ℕ) (held wanted : List ℕ) (s : Sheets) where
         ),
   )
 
+  pub lists-decided : Dec Right
+  lists-decided = tested wrong lists-tested
+
   -- The number that the tests give, and nothing changed.
   judged : PlanRefusals n Right s (planOut (first asked) 0 0 s)
   judged = go (pointsWrong n) wrong refl refl
@@ -93,7 +111,7 @@ module _ (each plans places n : ℕ) (held wanted : List ℕ) (s : Sheets) where
       go : (a b : Bool) → pointsWrong n ≡ a → wrong ≡ b → PlanRefusals n Right s (planOut (first asked) 0 0 s)
       go true b e f =
           let no : PointsRight n → ⊥ = λ r. let z : _≡_ {A = ℕ} 0 1 = cc (points-tested n .1 r) in omega arith in
-          rw e (record { exactly = (λ z. absurd (omega arith), λ r. absurd (no (r .0))); wrong-points = λ w. refl; wrong-length = λ r w. absurd (no r) })
+          rw e (record { exactly = (λ z. absurd (omega arith), λ r. absurd (no (r .0))); wrong-points = λ w. refl; wrong-length = λ r w. absurd (no r); refused = λ z. nothing 10 s })
       go false true e f =
           let no : Right → ⊥ = λ r. let z : _≡_ {A = ℕ} 0 1 = cc (lists-tested .1 r) in omega arith in
           rw (e, f)
@@ -101,6 +119,7 @@ module _ (each plans places n : ℕ) (held wanted : List ℕ) (s : Sheets) where
             exactly = (λ z. absurd (omega arith), λ r. absurd (no (r .1)));
             wrong-points = λ w. absurd (w (points-tested n .0 e));
             wrong-length = λ r w. refl;
+            refused = λ z. nothing 1 s;
           })
       go false false e f = rw (e, f) (not-refused (points-tested n .0 e, lists-tested .0 f) refl)
 
@@ -130,6 +149,9 @@ choices-follow : (n : ℕ) (held wanted list : List ℕ) → n ≤ 1984 → MapO
 unfolding planOf
 choices-follow n held wanted list few h w =
     rw (choices-taken n held wanted list few h w) (followed-plan 0 0 (differs held wanted))
+
+bytes-kept : {a b : List ℕ} → bytes (words a) ≡ a → bytes (words b) ≡ b → length (words a) ≡ length (words b) → length a ≡ length b
+bytes-kept {a} {b} p q e = ap length (sym p) ∙ length-halves 256 (words a) ∙ ap (λ (k : ℕ). 2 * k) e ∙ sym (length-halves 256 (words b)) ∙ ap length q
 
 -- A part of a list that was filled, in front of what lies behind it.
 pub over-part : {cut : List ℕ} (m : ℕ) (new list : List ℕ) → length new ≡ m → cut ≡ new → cut ++ drop m list ≡ over new list
@@ -163,16 +185,38 @@ ready n held wanted list few h w e =
     })
 
 -- Measured: the least bytes are the batch's.
-pub measured : (n : ℕ) (held wanted : List ℕ) {numbers many least numbers′ many′ : ℕ} {room list : List ℕ} → MapOf n held → MapOf n wanted
-    → numbers′ ≡ numbers → many′ ≡ many → AllMeasured (differs held wanted) numbers many least room list
-    → Measured n held wanted numbers′ many′ least room list
-measured n held wanted h w e₁ e₂ t =
-    let e = t .low ∙ sym (plan-cost n held wanted (h .long) (w .long)) ∙ sym (batch-cost n held wanted (h .long) (w .long)) in
+module _ (n : ℕ) (held wanted : List ℕ) (h : MapOf n held) (w : MapOf n wanted) where
+  low-cost : length (batchOf held wanted) ≡ best 0 (rooms (differs held wanted))
+  low-cost = batch-cost n held wanted (h .long) (w .long) ∙ plan-cost n held wanted (h .long) (w .long)
+
+  pub measured : {numbers many least numbers′ many′ : ℕ} {room list : List ℕ} → numbers′ ≡ numbers → many′ ≡ many
+      → AllMeasured (differs held wanted) numbers many least room list → Measured n held wanted numbers′ many′ least room list
+  measured {numbers} {many} {least} {room = room} {list = list} e₁ e₂ t =
+      let ds : List Bool = differs held wanted in
+      let e : least ≡ length (batchOf held wanted) = t .low ∙ sym low-cost in
+      record {
+        bytes-are = e;
+        room-is = rw e₁ (t .room-whole);
+        choices-are = rw e₂ (t .choices-whole);
+        plain =
+            record {
+              least = rw e (least-from n held wanted h w 0 (omega arith));
+              room-long = ap length (t .room-whole) ∙ length-firsts numbers (rooms ds) ∙ sym e₁;
+              room-means = rw (e₁, t .room-whole) (room-means n held wanted h w numbers (firsts numbers (rooms ds)) (firsts-at numbers (rooms ds)));
+              choices-long = ap length (t .choices-whole) ∙ length-firsts many (choices ds) ∙ sym e₂;
+              choices-mean = rw (e₂, t .choices-whole) (choices-mean n held wanted h w many (firsts many (choices ds)) (firsts-at many (choices ds)));
+            };
+      }
+
+pub measured-bytes : {n : ℕ} {held wanted room₀ choices₀ : List ℕ} {size : ℕ} {room choices : List ℕ} → length room ≡ length room₀
+    → Measured n (words held) (words wanted) (length (longs room₀)) (length choices₀) size (longs room) choices
+    → MeasuredBytes n held wanted room₀ choices₀ size room choices
+measured-bytes e t =
     record {
-      bytes-are = e;
-      least = λ ps turns. omega (arith, e, demand3 n held wanted h w .fewest ps turns);
-      room-is = rw e₁ (t .room-whole);
-      choices-are = rw e₂ (t .choices-whole);
+      bytes-are = t .bytes-are;
+      room-is = t .room-is;
+      choices-are = t .choices-are;
+      plain = record { numbers = t .plain; room-kept = e };
     }
 
 -- Demand 3 of the batch's own length.
@@ -227,6 +271,14 @@ bytes-behind k {a} {b} p q e =
     rw twice (ap (drop (2 * (2 * k))) (sym p) ∙ sym (halves-drop 256 (2 * k) (words a)) ∙ ap bytes e ∙ halves-drop 256 (2 * k) (words b)
     ∙ ap (drop (2 * (2 * k))) q)
 
+-- A part has a point or more, so there are no more parts than points.
+in-order-few : {n i : ℕ} {ps : List Part} → i ≤ n → InOrder n i ps → i + length ps ≤ n
+in-order-few h none = omega arith
+in-order-few h (next {ps = ps} l f r) = omega (arith, in-order-few (f .within) r, f .some)
+
+few-parts : (n : ℕ) (held wanted : List ℕ) → MapOf n held → MapOf n wanted → length (planOf held wanted) ≤ n
+few-parts n held wanted h w = omega (arith, in-order-few (omega arith) (plan-in-order n held wanted (h .long) (w .long)))
+
 -- Refused.
 pub refused : (n : ℕ) (held wanted : List ℕ) (s : Sheets) {number : ℕ} → number ≡ first (planRefusals n held wanted s) → (number ≡ 0 → ⊥)
     → Planned n held wanted s (planOut number 0 0 s)
@@ -234,16 +286,7 @@ unfolding planned
 refused n held wanted s {number} e h =
     record {
       outcome = rw (← e, ne-eqb number 0 h);
-      refusals = rw e (judged 2 3968 127 n held wanted s);
-      fewest = λ z. absurd (h z);
-      plan = λ z. absurd (h z);
-      room = λ z. absurd (h z);
-      choices = λ z. absurd (h z);
-      equal = λ z. absurd (h z);
-      plan-behind = refl;
-      room-behind = refl;
-      choices-behind = refl;
-      batch-behind = refl;
+      plain = record { refusals = rw e (judged 2 3968 127 n held wanted s); done = λ z. absurd (h z) };
     }
 
 pub refused-bytes : (n : ℕ) (held wanted : List ℕ) (s : Sheets) {number : ℕ} → number ≡ first (bytePlanRefusals n held wanted s) → (number ≡ 0 → ⊥)
@@ -252,20 +295,51 @@ unfolding plannedBytes
 refused-bytes n held wanted s {number} e h =
     record {
       outcome = rw (← e, ne-eqb number 0 h);
-      refusals = rw e (judged 4 7936 508 n held wanted s);
-      numbers = λ z. absurd (h z);
-      low-first = λ z. absurd (h z);
-      plan-behind = refl;
-      room-behind = refl;
-      choices-behind = refl;
-      batch-behind = refl;
+      plain =
+          record {
+            refusals = rw e (judged 4 7936 508 n held wanted s);
+            numbers = λ z. absurd (h z);
+            plan-behind = refl;
+            room-behind = refl;
+            plan-kept = refl;
+            room-kept = refl;
+          };
     }
+
+-- Written over the start of a list, no longer than the list.
+length-over : (s l : List ℕ) → length s ≤ length l → length (over s l) ≡ length l
+unfolding over
+length-over s l h = simp (length-append, length-drop) (omega arith)
 
 -- What lies behind the first numbers of a list that are written over another's start.
 firsts-behind : (m : ℕ) (l list : List ℕ) → drop m (over (firsts m l) list) ≡ drop m list
 firsts-behind m l list = rw length-firsts at (behind-over (firsts m l) list)
 
--- Planned.
+-- Planned: what it leaves, in plain terms.
+left-plain : (n : ℕ) (held wanted : List ℕ) (s : Sheets) → PointsRight n × NumbersRight n held wanted s → MapOf n held → MapOf n wanted
+    → PlanDone n held wanted s (length (planOf held wanted)) (length (batchOf held wanted)) (overAll (writes held wanted) s)
+left-plain n held wanted s f h w =
+    let few = f .0 .few in
+    let ds : List Bool = differs held wanted in
+    let plan : List Part = planOf held wanted in
+    let bound = batch-bound n held wanted h w in
+    let parts = few-parts n held wanted h w in
+    record {
+      fewest = fewest n held wanted (s .batch) h w;
+      plan = chosen n held wanted (s .plan) (s .choices) (s .batch) few h w;
+      room = room-means n held wanted h w 127 (over (roomOf held wanted) (s .room)) (λ k l. written-at 127 (rooms ds) (s .room) k l);
+      choices = choices-mean n held wanted h w 1984 (over (choicesOf held wanted) (s .choices)) (λ k l. written-at 1984 (choices ds) (s .choices) k l);
+      equal = equal-none n held wanted h;
+      plan-behind = rw (← length-numbers plan) (behind-over (planNumbers plan) (s .plan));
+      room-behind = firsts-behind 127 (rooms ds) (s .room);
+      choices-behind = firsts-behind 1984 (choices ds) (s .choices);
+      batch-behind = behind-over (batchOf held wanted) (s .batch);
+      plan-kept = length-over (planNumbers plan) (s .plan) (omega (arith, length-numbers plan, f .1 .plan-long));
+      room-kept = length-over (roomOf held wanted) (s .room) (omega (arith, length-firsts 127 (rooms ds), f .1 .room-long));
+      choices-kept = length-over (choicesOf held wanted) (s .choices) (omega (arith, length-firsts 1984 (choices ds), f .1 .choices-long));
+      batch-kept = length-over (batchOf held wanted) (s .batch) (omega (arith, f .1 .batch-long));
+    }
+
 pub done : (n : ℕ) (held wanted : List ℕ) (s : Sheets) {plan room list batch : List ℕ} {packets size : ℕ} → first (planRefusals n held wanted s) ≡ 0
     → MapOf n held → MapOf n wanted → room ≡ over (roomOf held wanted) (s .room) → list ≡ over (choicesOf held wanted) (s .choices)
     → Written wanted (followed 0 0 (take n list)) (s .plan) (s .batch) plan batch packets size
@@ -273,24 +347,18 @@ pub done : (n : ℕ) (held wanted : List ℕ) (s : Sheets) {plan room list batch
 unfolding planned packetsOf batchOf
 done n held wanted s {packets = packets} {size = size} e h w r c written =
     let f = fit 2 3968 127 n held wanted s e in
-    let few = f .0 .few in
-    let t = rw (c, choices-follow n held wanted (s .choices) few h w) at written in
+    let t = rw (c, choices-follow n held wanted (s .choices) (f .0 .few) h w) at written in
     record {
       outcome = rw (e, t .packets-are, t .bytes-are, t .plan-is, t .batch-is, r, c);
-      refusals = not-refused f refl;
-      fewest = λ z. rw (t .packets-are, t .bytes-are, t .batch-is) (fewest n held wanted (s .batch) h w);
-      plan = λ z. rw (t .packets-are, t .bytes-are, t .plan-is, c, t .batch-is) (chosen n held wanted (s .plan) (s .choices) (s .batch) few h w);
-      room = λ z. rw r (room-means n held wanted h w (s .room));
-      choices = λ z. rw c (choices-mean n held wanted h w few (s .choices));
-      equal = λ z same. rw (t .packets-are, t .bytes-are) (equal-none n held wanted h same);
-      plan-behind = rw (t .packets-are, t .plan-is, ← length-numbers (planOf held wanted)) (behind-over (planNumbers (planOf held wanted)) (s .plan));
-      room-behind = rw r (firsts-behind 127 (rooms (differs held wanted)) (s .room));
-      choices-behind = rw c (firsts-behind 1984 (choices (differs held wanted)) (s .choices));
-      batch-behind = rw (t .bytes-are, t .batch-is) (behind-over (batchOf held wanted) (s .batch));
+      plain =
+          record {
+            refusals = not-refused f refl;
+            done = λ z. rw (t .packets-are, t .bytes-are, t .plan-is, t .batch-is, r, c) (left-plain n held wanted s f h w);
+          };
     }
 
 -- The numbers that bytes of the right lengths hold are of the right lengths.
-fit-words : {n : ℕ} {held wanted : List ℕ} {s : Sheets} → PointsRight n × BytesRight n held wanted s
+pub fit-words : {n : ℕ} {held wanted : List ℕ} {s : Sheets} → PointsRight n × BytesRight n held wanted s
     → PointsRight n × NumbersRight n (words held) (words wanted) (sheetsIn s)
 fit-words (points, f) = (
   points,
@@ -325,18 +393,6 @@ pub room-over : (cut room l : List ℕ) → length cut ≡ 508 → ((k : ℕ) �
 room-over cut room l long small e =
     over-part 508 (longBytes (firsts 127 l)) room (room-bytes l) (sym (bytes-longs cut (omega arith) (below-front cut (drop 508 room) small)) ∙ ap longBytes e)
 
--- Rule 1.3: a number of the room, byte by byte.
-low-bytes-first : (room : List ℕ) (k : ℕ) → 4 * k + 3 < length room
-    → getD (longs room) k 0
-    ≡ getD room (4 * k) 0 + 256 * getD room (4 * k + 1) 0 + 65536 * getD room (4 * k + 2) 0 + 16777216 * getD room (4 * k + 3) 0
-low-bytes-first room k h =
-    let third : 4 * k + 2 + 1 ≡ 4 * k + 3 = omega arith in
-    omega (arith, rw third at (long-at room k h))
-
-room-long : (l room : List ℕ) → 508 ≤ length (over (longBytes (firsts 127 l)) room)
-unfolding over
-room-long l room = rw length-append (omega (arith, room-bytes l))
-
 -- The numbers that the bytes hold are planned as above, and the bytes are those of the numbers.
 pub done-bytes : (n : ℕ) (held wanted : List ℕ) (s : Sheets) {plan room list batch : List ℕ} {packets size : ℕ}
     → first (bytePlanRefusals n held wanted s) ≡ 0 → MapOf n (words held) → MapOf n (words wanted) → bytes (words plan) ≡ plan
@@ -352,16 +408,19 @@ done-bytes n held wanted s {plan} {room} {list} {batch} {packets} {size} e h w p
     rw (r, pairs-over 256 (halves 65536 numbers) (s .room), pairs-over 65536 numbers (words (s .room))) in
     let q =
     done n (words held) (words wanted) (sheetsIn s) (taken 2 3968 127 n (words held) (words wanted) (sheetsIn s) (fit-words f)) h w longs-room c t in
+    let left = q .plain .done refl in
     let v = rw (c, choices-follow n (words held) (words wanted) (s .choices) (f .0 .few) h w) at t in
     record {
       outcome = rw (e, v .packets-are, v .bytes-are, over-bytes (planNumbers (planOf (words held) (words wanted))) p p₀ (v .plan-is), r, c, v .batch-is);
-      refusals = not-refused f refl;
-      numbers = λ z. q;
-      low-first = λ z k l. low-bytes-first room k (omega (arith, rw (← r) at (room-long (rooms (differs (words held) (words wanted))) (s .room))));
-      plan-behind = bytes-behind packets p p₀ (q .plan-behind);
-      room-behind = rw r (rw room-bytes at (behind-over (longBytes numbers) (s .room)));
-      choices-behind = q .choices-behind;
-      batch-behind = q .batch-behind;
+      plain =
+          record {
+            refusals = not-refused f refl;
+            numbers = λ z. left;
+            plan-behind = bytes-behind packets p p₀ (left .plan-behind);
+            room-behind = rw r (rw room-bytes at (behind-over (longBytes numbers) (s .room)));
+            plan-kept = bytes-kept p p₀ (left .plan-kept);
+            room-kept = rw r (length-over (longBytes numbers) (s .room) (omega (arith, room-bytes (rooms (differs (words held) (words wanted))), f .1 .room-long)));
+          };
     }
 
 -- Numbers lent as their bytes: planning does there what it does on the numbers.

@@ -8,7 +8,7 @@ use lib.Seq.{drop-drop, drop-at, take-at}
 use Rattle.wire.specs.Buffers.{over}
 use Rattle.upload.specs.Plan.{Part, cost, packetFor, planNumbers, joined}
 use Rattle.upload.specs.Parts.{InOrder, next}
-use Rattle.upload.specs.Planning.{partAt, Placed}
+use Rattle.upload.specs.Plain.{partAt, Placed}
 use Rattle.upload.proofs.Reading.{meant}
 use Rattle.upload.proofs.Walk.{length-numbers}
 

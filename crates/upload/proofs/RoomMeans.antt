@@ -10,13 +10,13 @@ use lib.ListN.{length, drop, getD, length-drop, List·getD-append}
 use lib.Seq.{getD-drop}
 use lib.Dec.{eqb}
 use Rattle.wire.specs.Buffers.{over}
-use Rattle.upload.specs.Sizes.{roomSize, choicesSize}
-use Rattle.upload.specs.Cost.{differs, best, rooms, choices, SmallestCount}
+use Rattle.upload.specs.Cost.{differs, best, rooms, choices}
 use Rattle.upload.specs.Plan.{packetsOf, batchOf}
 use Rattle.upload.specs.Judge.{MapOf}
-use Rattle.upload.specs.Planning.{firsts, roomOf, choicesOf, bytesFrom, LeastFrom, RoomMeans, SamePoint, ChoicesMean}
+use Rattle.upload.specs.Plain.{SmallestCount, LeastFrom, RoomMeans, SamePoint, ChoicesMean}
+use Rattle.upload.specs.Planning.{firsts}
 use Rattle.upload.proofs.Least.{room-at, smallest-count}
-use Rattle.upload.proofs.Rooms.{length-firsts, firsts-at, firsts-none, room-end, choice-at, choice-end}
+use Rattle.upload.proofs.Rooms.{length-firsts, firsts-at, room-end, choice-at, choice-end}
 use Rattle.upload.proofs.Differs.{differs-long, differs-drop, differs-at}
 use Rattle.upload.proofs.Lists.{demand3, plan-cost, batch-cost}
 
@@ -42,9 +42,13 @@ smallest-by {i = i} {count = count} from from′ h e r =
     }
 
 -- What is written over a list's start stands there.
-written-at : (m : ℕ) (l list : List ℕ) (k : ℕ) → k < m → getD (over (firsts m l) list) k 0 ≡ getD (firsts m l) k 0
+pub written-at : (m : ℕ) (l list : List ℕ) (k : ℕ) → k < m → getD (over (firsts m l) list) k 0 ≡ getD l k 0
 unfolding over
-written-at m l list k h = List·getD-append (firsts m l) _ 0 k (omega (arith, length-firsts m l))
+written-at m l list k h = List·getD-append (firsts m l) _ 0 k (omega (arith, length-firsts m l)) ∙ firsts-at m l k h
+
+-- The bytes of the batch for the points from i on, taken as a map of their own.
+abbrev bytesFrom : List ℕ → List ℕ → ℕ → ℕ
+bytesFrom held wanted i = length (batchOf (drop (2 * i) held) (drop (2 * i) wanted))
 
 module _ (n : ℕ) (held wanted : List ℕ) (h : MapOf n held) (w : MapOf n wanted) where
   abbrev ds : List Bool
@@ -61,27 +65,24 @@ module _ (n : ℕ) (held wanted : List ℕ) (h : MapOf n held) (w : MapOf n want
       ∙ sym (plan-cost (n - i) (drop (2 * i) held) (drop (2 * i) wanted) (held′ .long) (wanted′ .long))
       ∙ sym (batch-cost (n - i) (drop (2 * i) held) (drop (2 * i) wanted) (held′ .long) (wanted′ .long))
 
-  least-from : (i : ℕ) → i ≤ n → LeastFrom n held wanted i (bytesFrom held wanted i)
+  pub least-from : (i : ℕ) → i ≤ n → LeastFrom n held wanted i (bytesFrom held wanted i)
   unfolding batchOf
   least-from i l =
       let d = demand3 (n - i) (drop (2 * i) held) (drop (2 * i) wanted) (map-from n held i l h) (map-from n wanted i l w) in
       record {
-        batch = refl;
         packets = packetsOf (drop (2 * i) held) (drop (2 * i) wanted);
-        back-to-back = refl;
         accepted = d .accepted;
         turns = d .turns;
         total = sym (d .bytes);
         least = d .fewest;
       }
 
-  pub room-means : (room : List ℕ) → RoomMeans n held wanted (over (roomOf held wanted) room)
-  room-means room =
+  -- A room that has the least bytes from each of the first points on.
+  pub room-means : (numbers : ℕ) (room : List ℕ) → ((k : ℕ) → k < numbers → getD room k 0 ≡ getD (rooms ds) k 0) → RoomMeans n held wanted numbers room
+  room-means numbers room at =
       record {
-        below = λ k l g.
-            rw (written-at roomSize (rooms ds) room k g ∙ firsts-at roomSize (rooms ds) k g ∙ room-at ds k (omega (arith, all)) ∙ low-bytes k (omega arith))
-            (least-from k (omega arith));
-        beyond = λ k l g. written-at roomSize (rooms ds) room k g ∙ firsts-none roomSize (rooms ds) k (room-end ds k (omega (arith, all)));
+        below = λ k l g. rw (at k (omega arith) ∙ room-at ds k (omega (arith, all)) ∙ low-bytes k (omega arith)) (least-from k (omega arith));
+        beyond = λ k l g. at k (omega arith) ∙ room-end ds k (omega (arith, all));
       }
 
   -- A point that differs, and one that does not.
@@ -98,17 +99,15 @@ module _ (n : ℕ) (held wanted : List ℕ) (h : MapOf n held) (w : MapOf n want
   point-same i l same =
       differs-at held wanted i (omega (arith, h .long)) (omega (arith, w .long)) ∙ rw (eq-eqb _ _ (same .0), eq-eqb _ _ (same .1))
 
-  pub choices-mean : n ≤ 1984 → (list : List ℕ) → ChoicesMean n held wanted (over (choicesOf held wanted) list)
-  choices-mean few list =
+  pub choices-mean : (many : ℕ) (list : List ℕ) → ((k : ℕ) → k < many → getD list k 0 ≡ getD (choices ds) k 0) → ChoicesMean n held wanted many list
+  choices-mean many list at =
       record {
+        from = bytesFrom held wanted;
         least = least-from;
-        differing = λ i l other.
+        differing = λ i l g other.
             let d = point-differs i l other in
             rw (at i (omega arith), choice-at ds i (omega (arith, all)), d)
             (smallest-by (λ (k : ℕ). best 0 (rooms (drop k ds))) (bytesFrom held wanted) (omega arith) low-bytes (rw all at (smallest-count ds i (omega (arith, all)) d)));
-        same = λ i l s. at i (omega arith) ∙ choice-at ds i (omega (arith, all)) ∙ rw (point-same i l s);
-        beyond = λ i l g. at i g ∙ choice-end ds i (omega (arith, all));
+        same = λ i l g s. at i (omega arith) ∙ choice-at ds i (omega (arith, all)) ∙ rw (point-same i l s);
+        beyond = λ i l g. at i (omega arith) ∙ choice-end ds i (omega (arith, all));
       }
-    where
-      at : (i : ℕ) → i < 1984 → getD (over (choicesOf held wanted) list) i 0 ≡ getD (choices ds) i 0
-      at i g = written-at choicesSize (choices ds) list i g ∙ firsts-at choicesSize (choices ds) i g

@@ -9,7 +9,8 @@ use lib.ListN.{length}
 use lib.Dec.{eqb}
 use Rattle.wire.specs.First.{first}
 use Rattle.upload.specs.Plan.{Part, cost}
-use Rattle.upload.specs.Planning.{Sheets, PlanOut, bytePlanRefusals, plannedBytes, PlannedBytes}
+use Rattle.upload.specs.Plain.{Sheets, PlanOut}
+use Rattle.upload.specs.Planning.{bytePlanRefusals, plannedBytes, PlannedBytes}
 use Rattle.upload.proofs.Outcome.{fit}
 
 few-parts : (ps : List Part) → length ps ≤ cost ps
@@ -25,6 +26,6 @@ answer-small {n} {held} {wanted} {s} {o} t = go (eqb (first (bytePlanRefusals n 
     go false e = rw (t .outcome, e) (omega arith, omega arith)
     go true e =
         let right = fit 4 7936 508 n held wanted s (eqb-true _ _ e) in
-        let none = t .refusals .exactly .1 right in
-        let p = t .numbers none .plan none in
+        let none = t .plain .refusals .exactly .1 right in
+        let p = t .plain .numbers none .plan in
         omega (arith, few-parts (p .parts))

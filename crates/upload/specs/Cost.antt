@@ -1,6 +1,5 @@
 -- Rule 6.2: the least bytes for what is left of a map. A packet of count points costs 6 + 4 × count bytes, count 1-126 (rule 6.1).
-use Prim.Native.Nat.{ℕ, zero, suc, _+_, _*_, _≤_, _<_, min}
-use mathlib.Core.Path.{_≡_}
+use Prim.Native.Nat.{ℕ, zero, suc, _+_, min}
 use mathlib.Core.Bool.{Bool, not, cond, _&&_}
 use mathlib.Core.List.{List, [], _∷_}
 use lib.Dec.{eqb, leb}
@@ -51,16 +50,3 @@ choice d r = cond d (suc (more mostMore r)) 0
 unfoldable pub choices : List Bool → List ℕ
 choices [] = []
 choices (d ∷ ds) = choice d (rooms ds) ∷ choices ds
-
--- ---- The same in the words of the rules.
-
--- Rules 6.2 and 6.5: of n points, where `from` gives the least bytes for those from a point on: a packet that begins at point i
--- costs 6 + 4 × count and what is left behind it. No count from 1 to 126 within the map costs less than this one, and every smaller
--- one costs more.
-pub record SmallestCount (n : ℕ) (from : ℕ → ℕ) (i count : ℕ) : Type 0 where
-  pub some : 1 ≤ count
-  pub few : count ≤ 126
-  pub within : i + count ≤ n
-  pub attained : from i ≡ 6 + 4 * count + from (i + count)
-  pub lower : (c : ℕ) → 1 ≤ c → c ≤ 126 → i + c ≤ n → from i ≤ 6 + 4 * c + from (i + c)
-  pub smallest : (c : ℕ) → 1 ≤ c → c < count → from i < 6 + 4 * c + from (i + c)

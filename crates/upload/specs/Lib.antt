@@ -4,6 +4,7 @@ pub mod Cost
 pub mod Plan
 pub mod Judge
 pub mod Parts
+pub mod Plain
 pub mod Planning
 pub mod Examples
 pub mod Internal
