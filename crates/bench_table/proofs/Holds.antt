@@ -31,7 +31,8 @@ use Rattle.controller8.proofs.Promises.{step-bytes}
 use Rattle.packet.specs.Making.{packetOf}
 use Rattle.upload.specs.Cost.{differs, best, rooms, more, choices}
 use Rattle.upload.specs.Plan.{planFrom, planOf, packetFor, packetsOf, joined, batchOf, planNumbers}
-use Rattle.upload.specs.Planning.{sheets, PlanOut, planOut, firsts, bytePlanOut, planned}
+use Rattle.upload.specs.Plain.{PlanOut}
+use Rattle.upload.specs.Planning.{sheets, planOut, firsts, bytePlanOut, planned}
 use Rattle.upload.proofs.Outcome.{plan-bytes}
 use Rattle.bench_table.specs.Table.{PacketRow, PlanRow, BenchRow, packets, plans, rows, buffer, blank, stateAfter}
 use Rattle.bench_table.specs.Holds.{packetOut, planRowOut, PacketHolds, PlanHolds, EachHolds}

@@ -8,7 +8,8 @@ use lib.Seq.{sets}
 use Rattle.settings.specs.Reset.{resetMap}
 use Rattle.controller.specs.State.{State, resetState}
 use Rattle.controller.specs.Calls.{callsOf, stateAfterAll}
-use Rattle.upload.specs.Planning.{Sheets, sheets}
+use Rattle.upload.specs.Plain.{Sheets}
+use Rattle.upload.specs.Planning.{sheets}
 
 pub record PacketRow : Type 0 where
   pub before : List (List ℕ)

@@ -8,7 +8,7 @@ ghost use lib.Seq.{sets};
 ghost use Rattle.upload.specs.Sizes.{planSize, batchSize};
 ghost use Rattle.upload.specs.Cost.{differs};
 ghost use Rattle.upload.specs.Plan.{followed};
-ghost use Rattle.upload.specs.Planning.{sheets, planOut, MapsLent, Measured, Followable, Written, Planned};
+ghost use Rattle.upload.specs.Planning.{MapsLent, Measured, Followable, Written, Planned};
 use planning::Answer;
 use planning::Lengths;
 
@@ -131,9 +131,9 @@ pub fn plan(
     ensures { λ r.
         ⌜
         Planned points (now (held .entry)) (now (wanted .entry))
-        (sheets (now (plan .entry)) (now (room .entry)) (now (choices .entry)) (now (batch .entry)))
-        (planOut (r .status) (r .packets) (r .bytes)
-        (sheets (now (plan .exit)) (now (room .exit)) (now (choices .exit)) (now (batch .exit))))
+        (record { plan = now (plan .entry); room = now (room .entry); choices = now (choices .entry); batch = now (batch .entry) })
+        (record { status = r .status; packets = r .packets; bytes = r .bytes; left =
+            record { plan = now (plan .exit); room = now (room .exit); choices = now (choices .exit); batch = now (batch .exit) } })
         ⌝ }
 {
     let n = points as usize;

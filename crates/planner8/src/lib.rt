@@ -10,7 +10,7 @@ ghost use Rattle.wire.specs.Tables.{words, longs};
 ghost use Rattle.upload.specs.Sizes.{planSize, batchSize};
 ghost use Rattle.upload.specs.Cost.{differs};
 ghost use Rattle.upload.specs.Plan.{followed};
-ghost use Rattle.upload.specs.Planning.{sheets, planOut, MapsLent, Measured, Followable, Written, PlannedBytes};
+ghost use Rattle.upload.specs.Planning.{MapsLent, MeasuredBytes, Followable, Written, PlannedBytes};
 use planning::Answer;
 use planning::Lengths;
 
@@ -69,8 +69,8 @@ pub fn measure(held: &[u8], wanted: &[u8], room: &mut [u8], choices: &mut [u8], 
         ⌝ }
     ensures { λ r.
         ⌜
-        Measured n (words (now (held .entry))) (words (now (wanted .entry)))
-        (length (longs (now (room .entry)))) (length (now (choices .entry))) r (longs (now (room .exit))) (now (choices .exit))
+        MeasuredBytes n (now (held .entry)) (now (wanted .entry)) (now (room .entry)) (now (choices .entry))
+        r (now (room .exit)) (now (choices .exit))
         ⌝ }
 {
     tables::fill_bytes(room, 0);
@@ -145,9 +145,9 @@ pub fn plan(
     ensures { λ r.
         ⌜
         PlannedBytes points (now (held .entry)) (now (wanted .entry))
-        (sheets (now (plan .entry)) (now (room .entry)) (now (choices .entry)) (now (batch .entry)))
-        (planOut (r .status) (r .packets) (r .bytes)
-        (sheets (now (plan .exit)) (now (room .exit)) (now (choices .exit)) (now (batch .exit))))
+        (record { plan = now (plan .entry); room = now (room .entry); choices = now (choices .entry); batch = now (batch .entry) })
+        (record { status = r .status; packets = r .packets; bytes = r .bytes; left =
+            record { plan = now (plan .exit); room = now (room .exit); choices = now (choices .exit); batch = now (batch .exit) } })
         ⌝ }
 {
     let n = points as usize;

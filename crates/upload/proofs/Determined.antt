@@ -1,5 +1,5 @@
 -- The plain promises alone determine every answer: two outcomes that both meet them are equal.
-use Prim.Native.Nat.{ℕ, zero, suc, _+_, _*_, _%_, _≤_, _<_}
+use Prim.Native.Nat.{ℕ, _+_, _*_, _%_, _≤_, _<_}
 use mathlib.Core.Path.{_≡_, refl, sym, ap, _∙_}
 use mathlib.Core.Bool.{Bool, true, false}
 use mathlib.Core.List.{List, map}
@@ -11,9 +11,9 @@ use lib.ListN.{length, take, drop, getD, take-append-drop}
 use lib.Seq.{ext-getD, length-take-le, getD-take}
 use Rattle.wire.specs.Plain.{Bytes}
 use Rattle.wire.specs.Tables.{words, bytes, longs, longBytes}
-use Rattle.wire.proofs.Tables.{halves-pairs, bytes-longs, pairs-take, length-pairs}
+use Rattle.wire.proofs.Tables.{halves-pairs, bytes-longs, pairs-take}
 use Rattle.upload.specs.Plan.{Part, planNumbers, packetFor, joined, cost}
-use Rattle.upload.specs.Plain.{Sheets, PlanOut, PointsRight, ListsRight, NumbersRight, BytesRight, Nothing, PlanRefusals, LeastFrom, RoomMeans, SamePoint, SmallestCount, ChoicesMean, PlanChosen, PlanDone, PlanPlain, PlanBytesPlain, MeasuredPlain, MeasuredBytesPlain}
+use Rattle.upload.specs.Plain.{Sheets, PlanOut, ListsRight, NumbersRight, Nothing, PlanRefusals, LeastFrom, RoomMeans, SamePoint, SmallestCount, ChoicesMean, PlanDone, PlanPlain, PlanBytesPlain, MeasuredPlain, MeasuredBytesPlain}
 use Rattle.upload.proofs.Bytes.{below-take}
 use Rattle.upload.proofs.Outcome.{points-decided, lists-decided, fit-words}
 

@@ -15,13 +15,13 @@ use Rattle.wire.specs.First.{first}
 use Rattle.wire.specs.Buffers.{over}
 use Rattle.wire.specs.Tables.{halves, words, bytes, longs, longBytes}
 use Rattle.wire.proofs.Laws.{take-over}
-use Rattle.wire.proofs.Tables.{length-pairs, length-halves, pairs-halves, halves-drop, halves-over, pairs-over, bytes-longs, long-at}
+use Rattle.wire.proofs.Tables.{length-pairs, length-halves, pairs-halves, halves-drop, halves-over, pairs-over, bytes-longs}
 use Rattle.wire.proofs.Tests.{told, or-left}
 use Rattle.upload.specs.Cost.{differs, best, rooms, choices}
 use Rattle.upload.specs.Plan.{Part, planOf, followed, planNumbers, packetFor, packetsOf, joined, batchOf}
 use Rattle.upload.specs.Judge.{MapOf}
 use Rattle.upload.specs.Parts.{InOrder, none, next}
-use Rattle.upload.specs.Plain.{Sheets, PlanOut, PointsRight, ListsRight, NumbersRight, BytesRight, Nothing, PlanRefusals, LeastFrom, Fewest, PlanChosen, PlanDone}
+use Rattle.upload.specs.Plain.{Sheets, PlanOut, PointsRight, ListsRight, NumbersRight, BytesRight, Nothing, PlanRefusals, Fewest, PlanChosen, PlanDone}
 use Rattle.upload.specs.Planning.{sheets, sheetsIn, sheetBytes, bytePlanOut, writes, overAll, plannedBy, pointsWrong, lengths, lengthsWrong, refusalsWith, planRefusals, bytePlanRefusals, planOut, firsts, roomOf, choicesOf, planned, plannedBytes, MapsLent, Measured, MeasuredBytes, Followable, Written, Planned, PlannedBytes}
 use Rattle.upload.proofs.Lists.{demand3, plan-in-order, plan-cost, plan-bound, batch-cost, batch-bound, plan-equal}
 use Rattle.upload.proofs.Choice.{plan-chosen, chosen-only}

@@ -24,7 +24,8 @@ use Rattle.compress.specs.Plain.{CompressOut}
 use Rattle.compress.specs.Compressing.{compressOut, compressingBytes, CompressedBytes}
 use Rattle.split.specs.Plain.{SplitOut}
 use Rattle.split.specs.Splitting.{splitOut, splitting, SplitBytes}
-use Rattle.upload.specs.Planning.{Sheets, PlanOut, planOut, plannedBytes, PlannedBytes}
+use Rattle.upload.specs.Plain.{Sheets, PlanOut}
+use Rattle.upload.specs.Planning.{plannedBytes, PlannedBytes}
 
 -- ---- Reading, rule 2.6.
 
@@ -146,4 +147,4 @@ pub record PackedPlan (n : ℕ) (held wanted : List ℕ) (before : Sheets) (answ
   pub packed : answer ≡ packedPlan (plannedBytes n held wanted before)
   pub lists : left ≡ plannedBytes n held wanted before .left
   pub planned : PlannedBytes n held wanted before
-      (planOut (answer % 256) (answer / 256 % 16777216) (answer / 4294967296) left)
+      (record { status = answer % 256; packets = answer / 256 % 16777216; bytes = answer / 4294967296; left = left })

@@ -6,7 +6,6 @@ ghost use mathlib.Core.Bool.{not};
 ghost use lib.Dec.{eqb};
 ghost use Rattle.controller8.specs.Bytes.{lent, lentReset};
 ghost use Rattle.controller8.specs.Promises.{ResetsBytes};
-ghost use Rattle.upload.specs.Planning.{sheets};
 ghost use Rattle.vermolgas.specs.Packed.{PackedRead, PackedMake, PackedReplyRead, PackedHandled};
 ghost use Rattle.vermolgas.specs.Packed.{PackedRows, PackedCompress, PackedSplit, PackedPlan};
 
@@ -127,8 +126,8 @@ pub extern "C" fn vermolgas_plan(
     batch: &mut [u8],
 ) -> u64
     ensures { λ r. ⌜ PackedPlan points (now (held .entry)) (now (wanted .entry))
-        (sheets (now (plan .entry)) (now (room .entry)) (now (choices .entry)) (now (batch .entry)))
-        r (sheets (now (plan .exit)) (now (room .exit)) (now (choices .exit)) (now (batch .exit))) ⌝ }
+        (record { plan = now (plan .entry); room = now (room .entry); choices = now (choices .entry); batch = now (batch .entry) })
+        r (record { plan = now (plan .exit); room = now (room .exit); choices = now (choices .exit); batch = now (batch .exit) }) ⌝ }
 {
     let a = planner8::plan(points, held, wanted, plan, room, choices, batch);
     a.status as u64 + 256 * a.packets as u64 + 4294967296 * a.bytes as u64

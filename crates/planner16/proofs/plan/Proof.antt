@@ -7,7 +7,8 @@ use lib.ListN.{drop}
 use lib.Seq.{length-take-le}
 use Rattle.wire.specs.First.{first}
 use Rattle.upload.specs.Judge.{MapOf}
-use Rattle.upload.specs.Planning.{Sheets, sheets, choicesOf, choicesFor, roomOf, roomFor, planRefusals, PointsRight, NumbersRight}
+use Rattle.upload.specs.Plain.{Sheets, PointsRight, NumbersRight}
+use Rattle.upload.specs.Planning.{sheets, choicesOf, choicesFor, roomOf, roomFor, planRefusals}
 use Rattle.upload.proofs.Rooms.{length-firsts}
 use Rattle.upload.proofs.Outcome.{fit, maps-lent, over-part, Ready, ready, refused, done}
 use borrow.Author.Needs.{needs}

@@ -7,7 +7,7 @@ use Rattle.tables.proofs.Bytes.{zero-bytes}
 use Rattle.upload.specs.Cost.{differs}
 use Rattle.upload.proofs.Differs.{lent-long}
 use Rattle.upload.proofs.Rooms.{Measuring, measure-start, measure-small, measure-turn, measure-done}
-use Rattle.upload.proofs.Outcome.{measured}
+use Rattle.upload.proofs.Outcome.{measured, measured-bytes}
 use Rattle.planning.specs.Internal.{carriedIn}
 use Rattle.planner8.proofs.Places.{length-longs, zero-longs, map-words, lent-words}
 use borrow.Author.Needs.{needs}
@@ -78,12 +78,13 @@ returns c =
     let at-start = c .before .before .before .before .before .before .before .before .before .before .before .before .before .before .before in
     let args = at-start .args in
     let maps = at-start .pre .0 in
-    measured (args .n) (words (args .held .now)) (words (args .wanted .now))
+    measured-bytes (omega arith)
+    (measured (args .n) (words (args .held .now)) (words (args .wanted .now))
     (map-words (args .n) (args .held .now) (maps .held-long) (λ k. c .before .before .before .before .before .before .before .before .before .before .before .before .before .before .shared-slice-known .given k .fits))
     (map-words (args .n) (args .wanted .now) (maps .wanted-long) (λ k. c .before .before .before .before .before .before .before .before .before .before .before .before .before .shared-slice-known2 .given k .fits))
     (omega (arith, length-longs (c .before .before .before .before .before .before .before .before .before .fill-bytes .last .0), length-longs (args .room .now)))
     (omega arith)
-    (measure-done (c .loop-test .left) (c .before .loop .inv .0))
+    (measure-done (c .loop-test .left) (c .before .loop .inv .0)))
 
 pub measure-spec : {M : Type 1} → statement M
 measure-spec =

@@ -10,7 +10,8 @@ use Rattle.wire.specs.First.{first}
 use Rattle.wire.specs.Tables.{words}
 use Rattle.tables.proofs.Bytes.{bytes-words}
 use Rattle.upload.specs.Judge.{MapOf}
-use Rattle.upload.specs.Planning.{Sheets, sheets, choicesOf, choicesFor, roomFor, bytePlanRefusals, PointsRight, BytesRight}
+use Rattle.upload.specs.Plain.{Sheets, PointsRight, BytesRight}
+use Rattle.upload.specs.Planning.{sheets, choicesOf, choicesFor, roomFor, bytePlanRefusals}
 use Rattle.upload.proofs.Rooms.{length-firsts}
 use Rattle.upload.proofs.Outcome.{fit, maps-lent, over-part, room-over, Ready, ready, refused-bytes, done-bytes}
 use Rattle.planner8.proofs.Places.{map-words, length-longs}

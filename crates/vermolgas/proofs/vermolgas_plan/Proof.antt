@@ -3,7 +3,7 @@ use Prim.Native.Nat.{_+_, _*_, _/_, _%_, _≤_}
 use mathlib.Core.Path.{_≡_, ap}
 use native.Mathlib.Omega.{arith}
 use borrow.Author.Needs.{needs}
-use Rattle.upload.specs.Planning.{PlanOut}
+use Rattle.upload.specs.Plain.{PlanOut}
 use Rattle.upload.proofs.Small.{answer-small}
 use Rattle.vermolgas.specs.Packed.{packedPlan}
 use Rattle.vermolgas.proofs.vermolgas_plan.Statement.{statement}
