@@ -8,7 +8,8 @@ ghost use lib.Seq.{sets};
 ghost use Rattle.upload.specs.Sizes.{planSize, batchSize};
 ghost use Rattle.upload.specs.Cost.{differs};
 ghost use Rattle.upload.specs.Plan.{followed};
-ghost use Rattle.upload.specs.Planning.{MapsLent, Measured, Followable, Written, Planned};
+ghost use Rattle.upload.specs.Plain.{MapsLent};
+ghost use Rattle.upload.specs.Planning.{Measured, Followable, Written, Planned};
 use planning::Answer;
 use planning::Lengths;
 
@@ -132,8 +133,13 @@ pub fn plan(
         ⌜
         Planned points (now (held .entry)) (now (wanted .entry))
         (record { plan = now (plan .entry); room = now (room .entry); choices = now (choices .entry); batch = now (batch .entry) })
-        (record { status = r .status; packets = r .packets; bytes = r .bytes; left =
-            record { plan = now (plan .exit); room = now (room .exit); choices = now (choices .exit); batch = now (batch .exit) } })
+        (record {
+          status = r .status;
+          packets = r .packets;
+          bytes = r .bytes;
+          left =
+              record { plan = now (plan .exit); room = now (room .exit); choices = now (choices .exit); batch = now (batch .exit) };
+        })
         ⌝ }
 {
     let n = points as usize;

@@ -14,7 +14,7 @@ use Rattle.wire.proofs.Tables.{length-pairs, pairs-set, pairs-halves, pair-at}
 use Rattle.tables.proofs.Bytes.{Below, words-below}
 use Rattle.upload.specs.Cost.{differs}
 use Rattle.upload.specs.Judge.{MapOf}
-use Rattle.upload.specs.Planning.{MapsLent}
+use Rattle.upload.specs.Plain.{MapsLent}
 use Rattle.upload.proofs.Differs.{differs-at}
 
 pub length-longs : (s : List ℕ) → length (longs s) ≡ length s / 4

@@ -98,14 +98,14 @@ module _ {n : ℕ} {held wanted : List ℕ} {before : Sheets} (right : NumbersRi
   rooms-one : a .room ≡ b .room
   rooms-one =
       both-parts 127 (a .room) (b .room)
-      (front 127 (a .room) (b .room) (omega (arith, right .room-long, p .room-kept)) (omega (arith, right .room-long, q .room-kept)) (room-one (p .room) (q .room)))
+      (front 127 (a .room) (b .room) (omega (arith, right .room-long, p .room-kept)) (omega (arith, right .room-long, q .room-kept)) (λ k l. room-one (p .room) (q .room) k (omega arith)))
       (p .room-behind ∙ sym (q .room-behind))
 
   choices-lists-one : a .choices ≡ b .choices
   choices-lists-one =
       both-parts 1984 (a .choices) (b .choices)
       (front 1984 (a .choices) (b .choices) (omega (arith, right .choices-long, p .choices-kept)) (omega (arith, right .choices-long, q .choices-kept))
-      (choices-one (p .choices) (q .choices)))
+      (λ k l. choices-one (p .choices) (q .choices) k (omega arith)))
       (p .choices-behind ∙ sym (q .choices-behind))
 
 -- Rule 6.4: the status.
@@ -204,9 +204,9 @@ pub measure-determined : (n : ℕ) (held wanted : List ℕ) (numbers many size :
 measure-determined n held wanted numbers many size room choices size′ room′ choices′ p q =
     record {
       sizes = least-one (p .least) (q .least);
-      rooms = ext-getD 0 room room′ (p .room-long ∙ sym (q .room-long)) (λ k l. room-one (p .room-means) (q .room-means) k (omega (arith, p .room-long)));
+      rooms = ext-getD 0 room room′ (omega (arith, p .room-long, q .room-long)) (λ k l. room-one (p .room-means) (q .room-means) k (omega (arith, p .room-long)));
       choices-lists =
-          ext-getD 0 choices choices′ (p .choices-long ∙ sym (q .choices-long))
+          ext-getD 0 choices choices′ (omega (arith, p .choices-long, q .choices-long))
           (λ k l. choices-one (p .choices-mean) (q .choices-mean) k (omega (arith, p .choices-long)));
     }
 

@@ -10,7 +10,7 @@ use lib.Seq.{take-nil, drop-nil, take-length, drop-drop, paste}
 use lib.Dec.{eqb}
 use Rattle.wire.proofs.Tests.{told}
 use Rattle.upload.specs.Cost.{differs}
-use Rattle.upload.specs.Planning.{MapsLent}
+use Rattle.upload.specs.Plain.{MapsLent}
 
 double : (n : ℕ) → 2 * suc n ≡ suc (suc (2 * n))
 double n = omega arith

@@ -21,8 +21,8 @@ use Rattle.upload.specs.Cost.{differs, best, rooms, choices}
 use Rattle.upload.specs.Plan.{Part, planOf, followed, planNumbers, packetFor, packetsOf, joined, batchOf}
 use Rattle.upload.specs.Judge.{MapOf}
 use Rattle.upload.specs.Parts.{InOrder, none, next}
-use Rattle.upload.specs.Plain.{Sheets, PlanOut, PointsRight, ListsRight, NumbersRight, BytesRight, Nothing, PlanRefusals, Fewest, PlanChosen, PlanDone}
-use Rattle.upload.specs.Planning.{sheets, sheetsIn, sheetBytes, bytePlanOut, writes, overAll, plannedBy, pointsWrong, lengths, lengthsWrong, refusalsWith, planRefusals, bytePlanRefusals, planOut, firsts, roomOf, choicesOf, planned, plannedBytes, MapsLent, Measured, MeasuredBytes, Followable, Written, Planned, PlannedBytes}
+use Rattle.upload.specs.Plain.{Sheets, PlanOut, PointsRight, ListsRight, NumbersRight, BytesRight, Nothing, PlanRefusals, Fewest, PlanChosen, PlanDone, MapsLent}
+use Rattle.upload.specs.Planning.{sheets, sheetsIn, sheetBytes, bytePlanOut, writes, overAll, plannedBy, pointsWrong, lengths, lengthsWrong, refusalsWith, planRefusals, bytePlanRefusals, planOut, firsts, roomOf, choicesOf, planned, plannedBytes, Measured, MeasuredBytes, Followable, Written, Planned, PlannedBytes}
 use Rattle.upload.proofs.Lists.{demand3, plan-in-order, plan-cost, plan-bound, batch-cost, batch-bound, plan-equal}
 use Rattle.upload.proofs.Choice.{plan-chosen, chosen-only}
 use Rattle.upload.proofs.RoomMeans.{written-at, least-from, room-means, choices-mean}
@@ -201,9 +201,9 @@ module _ (n : ℕ) (held wanted : List ℕ) (h : MapOf n held) (w : MapOf n want
         plain =
             record {
               least = rw e (least-from n held wanted h w 0 (omega arith));
-              room-long = ap length (t .room-whole) ∙ length-firsts numbers (rooms ds) ∙ sym e₁;
+              room-long = omega (arith, ap length (t .room-whole), length-firsts numbers (rooms ds));
               room-means = rw (e₁, t .room-whole) (room-means n held wanted h w numbers (firsts numbers (rooms ds)) (firsts-at numbers (rooms ds)));
-              choices-long = ap length (t .choices-whole) ∙ length-firsts many (choices ds) ∙ sym e₂;
+              choices-long = omega (arith, ap length (t .choices-whole), length-firsts many (choices ds));
               choices-mean = rw (e₂, t .choices-whole) (choices-mean n held wanted h w many (firsts many (choices ds)) (firsts-at many (choices ds)));
             };
       }
@@ -327,8 +327,8 @@ left-plain n held wanted s f h w =
     record {
       fewest = fewest n held wanted (s .batch) h w;
       plan = chosen n held wanted (s .plan) (s .choices) (s .batch) few h w;
-      room = room-means n held wanted h w 127 (over (roomOf held wanted) (s .room)) (λ k l. written-at 127 (rooms ds) (s .room) k l);
-      choices = choices-mean n held wanted h w 1984 (over (choicesOf held wanted) (s .choices)) (λ k l. written-at 1984 (choices ds) (s .choices) k l);
+      room = room-means n held wanted h w 127 (over (roomOf held wanted) (s .room)) (λ k l. written-at 127 (rooms ds) (s .room) k (omega arith));
+      choices = choices-mean n held wanted h w 1984 (over (choicesOf held wanted) (s .choices)) (λ k l. written-at 1984 (choices ds) (s .choices) k (omega arith));
       equal = equal-none n held wanted h;
       plan-behind = rw (← length-numbers plan) (behind-over (planNumbers plan) (s .plan));
       room-behind = firsts-behind 127 (rooms ds) (s .room);

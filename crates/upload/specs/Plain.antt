@@ -225,6 +225,12 @@ pub record PlanBytesPlain (n : ℕ) (held wanted : List ℕ) (before : Sheets) (
 -- ---- Measuring, rules 6.5 and 7.3: the least bytes, with a room of so many numbers and so many choices. Whoever wants the bytes
 -- alone lends empty ones.
 
+-- Rules 6.1 and 1.3, what is asked of the caller: two maps of n points, of so many numbers (or bytes) a point.
+pub record MapsLent (each n : ℕ) (held wanted : List ℕ) : Type 0 where
+  pub few : n ≤ 1984
+  pub held-long : length held ≡ each * n
+  pub wanted-long : length wanted ≡ each * n
+
 pub record MeasuredPlain (n : ℕ) (held wanted : List ℕ) (numbers many size : ℕ) (room choices : List ℕ) : Type 0 where
   pub least : LeastFrom n held wanted 0 size
   pub room-long : length room ≡ numbers

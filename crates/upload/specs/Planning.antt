@@ -1,4 +1,5 @@
--- Rules 6.4 and 6.5: what planning answers, and what it leaves in the lent lists.
+-- Rules 6.4 and 6.5: what planning answers, and what it leaves in the lent lists, by definitions that can be run; and what its
+-- code promises, by these and in plain terms (Plain).
 use Prim.Native.Nat.{ℕ, zero, suc, _*_, _≤_}
 use mathlib.Core.Path.{_≡_}
 use mathlib.Core.Bool.{Bool, cond, not, _&&_, _||_}
@@ -85,12 +86,6 @@ choicesOf = choicesFor choicesSize
 
 -- ---- The two steps of planning that is not refused: measuring gives the least bytes and fills the room and the choices, writing
 -- makes plan and batch by following the choices.
-
--- Rules 6.1 and 1.3: two maps of n points, of so many numbers (or bytes) a point.
-pub record MapsLent (each n : ℕ) (held wanted : List ℕ) : Type 0 where
-  pub few : n ≤ mostPoints
-  pub held-long : length held ≡ each * n
-  pub wanted-long : length wanted ≡ each * n
 
 -- Rules 6.5 and 7.3, of measuring with so many numbers in the room and so many choices: the bytes of the batch, what is left in
 -- both, and the same in plain terms.
