@@ -151,7 +151,7 @@ module _ (gains room : List ℕ) where
   compressed-numbers e =
       record {
         outcome = e;
-        promised =
+        plain =
             subst (λ (o : CompressOut). PlainNumbers gains room o) (sym (e ∙ rw judged))
             (promised as-numbers gains room wrong tested (λ r. r));
       }
@@ -221,7 +221,7 @@ module _ (gains room : List ℕ) where
   compressed-bytes e =
       record {
         outcome = e;
-        promised =
+        plain =
             subst (λ (o : CompressOut). PlainBytes gains room o) (sym (e ∙ rw judged-bytes))
             (promised as-bytes (words gains) room wrong-bytes tested-bytes (λ r. r .numbers));
         numbers = λ even.

@@ -55,7 +55,7 @@ compressingBytes gains room =
 -- Rule 10.2: the promise on 16-bit numbers.
 pub record CompressedNumbers (gains room : List ℕ) (o : CompressOut) : Type 0 where
   pub outcome : o ≡ compressing gains room
-  pub promised : PlainNumbers gains room o
+  pub plain : PlainNumbers gains room o
 
 -- The answer, and the numbers that a room in bytes holds.
 abbrev pub numbersIn : CompressOut → CompressOut
@@ -64,5 +64,5 @@ numbersIn o = compressOut (o .status) (o .pairs) (words (o .room))
 -- Rules 1.3 and 10.2: the promise on bytes; of an even number of them all that is promised on numbers, of the numbers that the bytes hold.
 pub record CompressedBytes (gains room : List ℕ) (o : CompressOut) : Type 0 where
   pub outcome : o ≡ compressingBytes gains room
-  pub promised : PlainBytes gains room o
+  pub plain : PlainBytes gains room o
   pub numbers : length gains % 2 ≡ 0 → CompressedNumbers (words gains) (words room) (numbersIn o)

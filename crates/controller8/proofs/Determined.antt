@@ -12,7 +12,7 @@ use Rattle.controller.specs.State.{State, ResetOut}
 use Rattle.controller.specs.Step.{Out}
 use Rattle.controller.proofs.Determined.{step-determined, reset-determined}
 use Rattle.controller8.specs.Bytes.{Lent, stateIn, byteLengthsRight, LentOut, numbersOut, LentReset}
-use Rattle.controller8.specs.Plain.{BytesLent, StepBytesPlain, ResetBytesPlain, Pinned}
+use Rattle.controller8.specs.Plain.{BytesLent, AllBytes, StepBytesPlain, ResetBytesPlain, Pinned}
 use Rattle.controller8.proofs.Ways.{sized}
 use Rattle.controller8.proofs.Promises.{wrong}
 
@@ -25,13 +25,6 @@ pinned =
       numbers-left = λ o. refl;
       reset-answer = λ status l. refl;
     }
-
--- Lists that are lent as bytes are bytes.
-pub record AllBytes (l : Lent) : Type 0 where
-  pub block : Bytes (l .block)
-  pub staged : Bytes (l .staged)
-  pub live : Bytes (l .live)
-  pub gains : Bytes (l .gains)
 
 pub same-words : (a b : List ℕ) (n : ℕ) → length a ≡ 2 * n → length b ≡ 2 * n → Bytes a → Bytes b → words a ≡ words b → a ≡ b
 same-words a b n la lb ha hb e = sym (bytes-words a (omega arith) ha) ∙ ap bytes e ∙ bytes-words b (omega arith) hb

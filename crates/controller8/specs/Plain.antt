@@ -5,6 +5,7 @@ use mathlib.Core.Path.{_≡_}
 use mathlib.Core.List.{List}
 use lib.ListN.{length}
 use Rattle.wire.specs.Tables.{words}
+use Rattle.wire.specs.Plain.{Bytes}
 use Rattle.controller.specs.State.{ResetOut}
 use Rattle.controller.specs.Plain.{StepPlain, ResetPlain}
 use Rattle.controller8.specs.Bytes.{Lent, lent, stateIn, LentOut, lentOut, numbersOut, LentReset, lentReset}
@@ -15,6 +16,13 @@ pub record BytesLent (l : Lent) : Type 0 where
   pub staged : length (l .staged) ≡ 7936
   pub live : length (l .live) ≡ 7936
   pub gains : length (l .gains) ≡ 12096
+
+-- Every element of a lent list is a byte.
+pub record AllBytes (l : Lent) : Type 0 where
+  pub block : Bytes (l .block)
+  pub staged : Bytes (l .staged)
+  pub live : Bytes (l .live)
+  pub gains : Bytes (l .gains)
 
 -- A wrong length is refusal 1, without a reply, and all is as it was. Else the lengths stay, and all that is promised on numbers holds.
 pub record StepBytesPlain (p : List ℕ) (l : Lent) (reply : List ℕ) (o : LentOut) : Type 0 where

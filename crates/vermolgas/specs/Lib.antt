@@ -1,2 +1,3 @@
 -- How the C entries pack an answer into one number.
+pub mod Plain
 pub mod Packed

@@ -38,7 +38,7 @@ slice-aggregate-present-split : tie.Need-slice-aggregate-present-split
 slice-aggregate-present-split c =
     let a = c .before .before .before .before .before .before .before .before in
     let long = a .compress .kept .1 .0 in
-    let few = a .compress .ensures .promised .few in
+    let few = a .compress .ensures .plain .few in
     sym (length-take-le (2 * a .compress .result .pairs) (a .compress .last .1 .0) (omega (arith, long, few)))
 
 present-split-requires : tie.Need-present-split-requires

@@ -1,6 +1,5 @@
 -- Status and pairs are packed side by side, and there are few pairs, so each is what its bits say.
-use Prim.Native.Nat.{_+_, _*_, _/_, _%_}
-use mathlib.Core.Path.{_≡_, ap}
+use mathlib.Core.Path.{refl, ap}
 use native.Mathlib.Omega.{arith}
 use borrow.Author.Needs.{needs}
 use Rattle.vermolgas.specs.Packed.{packedCompress}
@@ -26,9 +25,11 @@ returns : tie.Need-returns
 returns c =
     let a = c .before .before .before .compress .result in
     let told = c .before .before .before .compress .ensures in
-    let pairs : (a .status + 256 * a .pairs) / 256 ≡ a .pairs = omega arith in
-    let status : (a .status + 256 * a .pairs) % 256 ≡ a .status = omega arith in
-    record { packed = ap packedCompress (told .outcome); promise = rw (status, pairs) told }
+    record {
+      packed = ap packedCompress (told .outcome);
+      plain = record { status = a .status; pairs = a .pairs; bits = refl; small = omega arith; plain = told .plain };
+      promise = told;
+    }
 
 pub vermolgas-compress-spec : {M : Type 1} → statement M
 vermolgas-compress-spec =

@@ -37,7 +37,7 @@ same-length : tie.Need-same-length
 same-length c = search needs
 
 returns : tie.Need-returns
-returns c = make-packed _ _ _ _ _ _ (omega arith) (omega arith) (omega (arith, small c)) (omega (arith, small c)) (c .before .before .before .make .ensures)
+returns c = make-packed _ _ _ _ _ _ (omega arith) (omega arith, omega (arith, small c), omega (arith, small c)) (c .before .before .before .make .ensures)
 
 pub vermolgas-make-spec : {M : Type 1} → statement M
 vermolgas-make-spec =

@@ -52,7 +52,7 @@ same-length-5 : tie.Need-same-length-5
 same-length-5 c = search needs
 
 returns : tie.Need-returns
-returns c = out-packed _ _ _ _ _ (omega arith) (omega arith) (omega (arith, small c)) (omega (arith, small c)) (c .before .before .before .before .before .before .before .before .before .before .before .handle .ensures)
+returns c = out-packed _ _ _ _ _ (omega arith) (omega arith, omega (arith, small c), omega (arith, small c)) (c .before .before .before .before .before .before .before .before .before .before .before .handle .ensures)
 
 pub vermolgas-packet-spec : {M : Type 1} → statement M
 vermolgas-packet-spec =

@@ -1,9 +1,8 @@
 -- Status, packets and bytes are packed side by side, and none of them is large, so each is what its bits say.
-use Prim.Native.Nat.{_+_, _*_, _/_, _%_, _≤_}
-use mathlib.Core.Path.{_≡_, ap}
+use Prim.Native.Nat.{_≤_}
+use mathlib.Core.Path.{refl, ap}
 use native.Mathlib.Omega.{arith}
 use borrow.Author.Needs.{needs}
-use Rattle.upload.specs.Plain.{PlanOut}
 use Rattle.upload.proofs.Small.{answer-small}
 use Rattle.vermolgas.specs.Packed.{packedPlan}
 use Rattle.vermolgas.proofs.vermolgas_plan.Statement.{statement}
@@ -47,13 +46,18 @@ returns c =
     let a = c .before .before .before .before .before .before .before .before .before .plan .result in
     let told = c .before .before .before .before .before .before .before .before .before .plan .ensures in
     let s = small c in
-    let packets : (a .status + 256 * a .packets + 4294967296 * a .bytes) / 256 % 16777216 ≡ a .packets = omega (arith, s) in
-    let bytes : (a .status + 256 * a .packets + 4294967296 * a .bytes) / 4294967296 ≡ a .bytes = omega (arith, s) in
-    let status : (a .status + 256 * a .packets + 4294967296 * a .bytes) % 256 ≡ a .status = omega arith in
     record {
       packed = ap packedPlan (told .outcome);
-      lists = ap (λ (o : PlanOut). o .left) (told .outcome);
-      planned = rw (status, packets, bytes) told;
+      plain =
+          record {
+            status = a .status;
+            packets = a .packets;
+            size = a .bytes;
+            bits = refl;
+            small = (omega arith, omega (arith, s));
+            plain = told .plain;
+          };
+      promise = told;
     }
 
 pub vermolgas-plan-spec : {M : Type 1} → statement M

@@ -5,7 +5,7 @@ use native.Mathlib.Omega.{arith}
 use borrow.Author.Needs.{needs}
 use Rattle.packet.specs.Reading.{commandAt, Answer, reading}
 use Rattle.packet.proofs.Within.{Within, reading-within}
-use Rattle.vermolgas.proofs.Packs.{read-packed, read-refused}
+use Rattle.vermolgas.proofs.Packs.{read-packed}
 use Rattle.vermolgas.proofs.vermolgas_read.Statement.{statement}
 use Rattle.vermolgas.proofs.vermolgas_read.Tie as tie
 
@@ -55,7 +55,7 @@ returns c =
     let told = c .before .before in
     let refused = rw (told .enum-told .given .1) at (told .before .before .read .ensures) in
     let why = rw (told .enum-told .given .1) at (c .before .refusal .ensures) in
-    read-refused _ _ _ _ (omega (arith, why)) (omega (arith, why)) (omega (arith, why, placed c)) refused
+    read-packed _ _ _ (omega (arith, why)) (omega (arith, why), omega arith, omega arith, omega arith, omega arith, omega (arith, why, placed c)) refused
 
 cast-result-2 : tie.Need-cast-result-2
 cast-result-2 c = search needs
@@ -86,7 +86,7 @@ add-result-4 c = omega (arith, small c)
 
 returns-2 : tie.Need-returns-2
 returns-2 c =
-    read-packed _ _ _ _ _ _ (omega arith) (omega arith) (omega arith) (omega (arith, small c)) (omega (arith, small c))
+    read-packed _ _ _ (omega arith) (omega arith, omega arith, omega arith, omega (arith, small c), omega (arith, small c), omega arith)
     (rw (c .before .r .given .1) at (c .before .before .before .read .ensures))
 
 pub vermolgas-read-spec : {M : Type 1} → statement M

@@ -8,7 +8,7 @@ use borrow.Author.Needs.{needs}
 use Rattle.reply.specs.Answer.{ReplyAnswer}
 use Rattle.reply.specs.Reading.{replyReading}
 use Rattle.reply.proofs.Within.{reply-within}
-use Rattle.vermolgas.proofs.Packs.{reply-packed, reply-refused}
+use Rattle.vermolgas.proofs.Packs.{reply-packed}
 use Rattle.vermolgas.proofs.vermolgas_read_reply.Statement.{statement}
 use Rattle.vermolgas.proofs.vermolgas_read_reply.Tie as tie
 
@@ -40,7 +40,7 @@ returns c =
     let told = c .before in
     let refused = rw (told .enum-told .given .1) at (told .before .before .read-reply .ensures) in
     let number = rw (told .enum-told .given .1) at (c .refusal .ensures) in
-    reply-refused _ _ _ (omega arith) (rw (← number) at refused)
+    reply-packed _ _ _ _ (omega arith) (omega arith, omega arith, omega arith) (rw (← number) at refused)
 
 cast-result : tie.Need-cast-result
 cast-result c = search needs
@@ -60,7 +60,7 @@ add-result c = omega (arith, small c)
 returns-2 : tie.Need-returns-2
 returns-2 c =
     let read = rw (c .before .r .given .1) at (c .before .before .before .read-reply .ensures) in
-    reply-packed _ _ _ _ _ (omega arith) (omega arith) (omega (arith, small c)) (rw (read .plain .place refl) at read)
+    reply-packed _ _ _ _ (omega arith) (omega arith, omega arith, omega (arith, small c)) read
 
 pub vermolgas-read-reply-spec : {M : Type 1} → statement M
 vermolgas-read-reply-spec =

@@ -1,6 +1,5 @@
 -- Status, packets and bytes are packed side by side, and none of them is large, so each is what its bits say.
-use Prim.Native.Nat.{_+_, _*_, _/_, _%_}
-use mathlib.Core.Path.{_≡_, ap}
+use mathlib.Core.Path.{refl, ap}
 use native.Mathlib.Omega.{arith}
 use borrow.Author.Needs.{needs}
 use Rattle.vermolgas.specs.Packed.{packedSplit}
@@ -32,10 +31,19 @@ returns : tie.Need-returns
 returns c =
     let a = c .before .before .before .split .result in
     let told = c .before .before .before .split .ensures in
-    let packets : (a .status + 256 * a .packets + 4294967296 * a .bytes) / 256 % 16777216 ≡ a .packets = omega (arith, told .right .few) in
-    let bytes : (a .status + 256 * a .packets + 4294967296 * a .bytes) / 4294967296 ≡ a .bytes = omega (arith, told .right .few) in
-    let status : (a .status + 256 * a .packets + 4294967296 * a .bytes) % 256 ≡ a .status = omega arith in
-    record { packed = ap packedSplit (told .right .outcome); promise = rw (status, packets, bytes) told }
+    record {
+      packed = ap packedSplit (told .right .outcome);
+      plain =
+          record {
+            status = a .status;
+            packets = a .packets;
+            size = a .bytes;
+            bits = refl;
+            small = (omega arith, omega (arith, told .right .few));
+            plain = told .right .plain;
+          };
+      promise = told;
+    }
 
 pub vermolgas-split-spec : {M : Type 1} → statement M
 vermolgas-split-spec =
