@@ -1,4 +1,5 @@
--- Upload planning: the plan that rule 6.2 fixes, its batch, and the judge of lists of packets.
+-- Upload planning: the plan that rule 6.2 fixes, its batch, and the judge of lists of packets. Plain,
+-- Judge and Parts say it with the numbers themselves, apart from the definitions that can be run.
 pub mod Sizes
 pub mod Cost
 pub mod Plan

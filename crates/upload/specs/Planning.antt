@@ -1,5 +1,5 @@
--- Rules 6.4 and 6.5: what planning answers, and what it leaves in the lent lists, by definitions that can be run; and what its
--- code promises, by these and in plain terms (Plain).
+-- Rules 6.4 and 6.5: what planning answers, and what it leaves in the lent lists, by definitions
+-- that can be run; and what its code promises, by these and in plain terms (Plain).
 use Prim.Native.Nat.{ℕ, zero, suc, _*_, _≤_}
 use mathlib.Core.Path.{_≡_}
 use mathlib.Core.Bool.{Bool, cond, not, _&&_, _||_}
@@ -87,8 +87,8 @@ choicesOf = choicesFor choicesSize
 -- ---- The two steps of planning that is not refused: measuring gives the least bytes and fills the room and the choices, writing
 -- makes plan and batch by following the choices.
 
--- Rules 6.5 and 7.3, of measuring with so many numbers in the room and so many choices: the bytes of the batch, what is left in
--- both, and the same in plain terms.
+-- Rules 6.5 and 7.3, of measuring with so many numbers in the room and so many choices: the bytes
+-- of the batch, what is left in both, and the same in plain terms.
 pub record Measured (n : ℕ) (held wanted : List ℕ) (numbers many size : ℕ) (room choices : List ℕ) : Type 0 where
   pub bytes-are : size ≡ length (batchOf held wanted)
   pub room-is : room ≡ roomFor numbers held wanted
