@@ -6,8 +6,8 @@ use lib.ListN.{length}
 use Rattle.wire.specs.Tables.{bytes}
 use Rattle.batch.specs.Pairs.{pairsPacket}
 
--- Header 14h and 2Bh, how many bytes follow, flag 1, the colour, how many words, where they start, and
--- the words, low byte first.
+-- Header 14h and 2Bh, how many bytes follow, flag 1, the colour, how many words, where they
+-- start, and the words, low byte first.
 pub record Pinned : Type 0 where
   pub pairs-packet : (colour start : ℕ) (ws : List ℕ)
       → pairsPacket colour start ws

@@ -1,5 +1,6 @@
--- What is promised of the compressor with the numbers themselves leaves it one outcome. The fewest pairs are unique: a list of pairs that is no
--- longer than the pairs of its gains is those pairs, since a run in front of gains takes a pair of its own only where it is the whole run.
+-- What is promised of the compressor with the numbers themselves leaves it one outcome. The
+-- fewest pairs are unique: a list of pairs that is no longer than the pairs of its gains is those
+-- pairs, since a run in front of gains takes a pair of its own only where it is the whole run.
 use Prim.Native.Nat.{ℕ, zero, suc, _+_, _*_, _≤_}
 use mathlib.Core.Path.{_≡_, refl, sym, ap, _∙_}
 use mathlib.Core.List.{List, _∷_, _++_}
@@ -14,7 +15,7 @@ use Rattle.wire.proofs.Tables.{length-pairs, halves-pairs}
 use Rattle.runs.specs.Pairs.{expand, Pairs, none, pair}
 use Rattle.compress.specs.Compress.{push, compressed}
 use Rattle.compress.specs.Compressing.{compressOut}
-use Rattle.compress.specs.Plain.{CompressOut, FewestPairs, Promised, PlainNumbers, PlainBytes}
+use Rattle.compress.specs.Plain.{CompressOut, FewestPairs, Promised, CompressPlainNumbers, CompressPlainBytes}
 use Rattle.compress.proofs.Fewest.{Pushed, opens, alone, longer, pushed, pushed-again, run-in-front, fewest-words, expand-compressed}
 
 -- A gain in front that takes a pair more opens a run.
@@ -115,7 +116,7 @@ module _ {each : ℕ} {read : List ℕ → List ℕ} {right : Type 0} {gains roo
       ]
 
 -- Rule 10.2: on 16-bit numbers there is one outcome.
-pub determined-numbers : {gains room : List ℕ} {o p : CompressOut} → PlainNumbers gains room o → PlainNumbers gains room p → o ≡ p
+pub determined-numbers : {gains room : List ℕ} {o p : CompressOut} → CompressPlainNumbers gains room o → CompressPlainNumbers gains room p → o ≡ p
 determined-numbers a b = same-outcome a b (λ ws. ws) (λ n e. refl) (λ n e. refl)
 
 -- Bytes are those of the numbers that they hold.
@@ -125,6 +126,6 @@ bytes-held l small n e =
     halves-pairs 256 part (omega (arith, length-pairs 256 part, length-take (4 * n) l)) (below-take (4 * n) l small)
 
 -- Rules 1.3 and 10.2: on bytes, too.
-pub determined-bytes : {gains room : List ℕ} {o p : CompressOut} → Bytes (o .room) → Bytes (p .room) → PlainBytes gains room o
-    → PlainBytes gains room p → o ≡ p
+pub determined-bytes : {gains room : List ℕ} {o p : CompressOut} → Bytes (o .room) → Bytes (p .room) → CompressPlainBytes gains room o
+    → CompressPlainBytes gains room p → o ≡ p
 determined-bytes {o = o} {p = p} mine yours a b = same-outcome a b bytes (bytes-held (o .room) mine) (bytes-held (p .room) yours)

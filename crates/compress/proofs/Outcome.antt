@@ -21,7 +21,7 @@ use Rattle.wire.proofs.Tests.{told}
 use Rattle.runs.specs.Gains.{firstLarge}
 use Rattle.runs.proofs.Right.{gains-small, small-gains}
 use Rattle.compress.specs.Compress.{compressed}
-use Rattle.compress.specs.Plain.{CompressOut, Compressible, BytesRight, Promised, PlainNumbers, PlainBytes}
+use Rattle.compress.specs.Plain.{CompressOut, Compressible, BytesRight, Promised, CompressPlainNumbers, CompressPlainBytes}
 use Rattle.compress.specs.Compressing.{compressOut, pairsRoom, countWrong, someLarge, compressRefusals, byteRefusals, compressedBy, compressing, compressingBytes, CompressedNumbers, numbersIn, CompressedBytes}
 use Rattle.compress.specs.Internal.{refusalsOf, Written}
 use Rattle.compress.proofs.Fewest.{compressed-two, compressed-length, fewest-pairs}
@@ -152,7 +152,7 @@ module _ (gains room : List ℕ) where
       record {
         outcome = e;
         plain =
-            subst (λ (o : CompressOut). PlainNumbers gains room o) (sym (e ∙ rw judged))
+            subst (λ (o : CompressOut). CompressPlainNumbers gains room o) (sym (e ∙ rw judged))
             (promised as-numbers gains room wrong tested (λ r. r));
       }
 
@@ -222,7 +222,7 @@ module _ (gains room : List ℕ) where
       record {
         outcome = e;
         plain =
-            subst (λ (o : CompressOut). PlainBytes gains room o) (sym (e ∙ rw judged-bytes))
+            subst (λ (o : CompressOut). CompressPlainBytes gains room o) (sym (e ∙ rw judged-bytes))
             (promised as-bytes (words gains) room wrong-bytes tested-bytes (λ r. r .numbers));
         numbers = λ even.
             compressed-numbers (words gains) (words room)

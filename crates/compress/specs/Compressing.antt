@@ -11,7 +11,7 @@ use Rattle.wire.specs.Buffers.{over}
 use Rattle.runs.specs.Gains.{firstLarge}
 use Rattle.runs.specs.Pairs.{colourGains}
 use Rattle.compress.specs.Compress.{compressed}
-use Rattle.compress.specs.Plain.{CompressOut, PlainNumbers, PlainBytes}
+use Rattle.compress.specs.Plain.{CompressOut, CompressPlainNumbers, CompressPlainBytes}
 
 -- Rule 10.2: the words of the pairs of a whole colour, no two neighbours of it equal.
 abbrev pub pairsRoom : ℕ
@@ -55,7 +55,7 @@ compressingBytes gains room =
 -- Rule 10.2: the promise on 16-bit numbers.
 pub record CompressedNumbers (gains room : List ℕ) (o : CompressOut) : Type 0 where
   pub outcome : o ≡ compressing gains room
-  pub plain : PlainNumbers gains room o
+  pub plain : CompressPlainNumbers gains room o
 
 -- The answer, and the numbers that a room in bytes holds.
 abbrev pub numbersIn : CompressOut → CompressOut
@@ -64,5 +64,5 @@ numbersIn o = compressOut (o .status) (o .pairs) (words (o .room))
 -- Rules 1.3 and 10.2: the promise on bytes; of an even number of them all that is promised on numbers, of the numbers that the bytes hold.
 pub record CompressedBytes (gains room : List ℕ) (o : CompressOut) : Type 0 where
   pub outcome : o ≡ compressingBytes gains room
-  pub plain : PlainBytes gains room o
+  pub plain : CompressPlainBytes gains room o
   pub numbers : length gains % 2 ≡ 0 → CompressedNumbers (words gains) (words room) (numbersIn o)

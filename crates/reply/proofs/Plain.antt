@@ -1,5 +1,6 @@
--- What names mean, by unfolding them; and what is said of reading a reply with the numbers themselves, from the list of its refusals: a test that
--- holds is a refusal that applies, and one that is passed does not hold.
+-- What names mean, by unfolding them; and what is said of reading a reply with the numbers
+-- themselves, from the list of its refusals: a test that holds is a refusal that applies, and one
+-- that is passed does not hold.
 use Prim.Native.Nat.{ℕ, _+_, _-_, _≤_, _<_}
 use mathlib.Core.Path.{_≡_, refl, sym, ap, subst, _∙_}
 use mathlib.Core.Logic.{_⊎_, inl}

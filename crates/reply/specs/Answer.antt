@@ -3,7 +3,8 @@ use Prim.Native.Nat.{ℕ}
 use Rattle.reply.specs.declared.ReplyReading.{ReplyReading}
 use Rattle.reply.specs.declared.ReplyReading.the-variants.{Reply, Refused}
 
--- Rule 3.5: the refusal, 0 for none; then the status, the data's place and its size. All 0 but the number if refused.
+-- Rule 3.5: the refusal, 0 for none; then the status, the data's place and its size. All 0 but
+-- the number if refused.
 pub record ReplyAnswer : Type 0 where
   pub number : ℕ
   pub status : ℕ

@@ -1,5 +1,6 @@
--- Rule 3.5 with the numbers themselves: when each refusal of reading a reply applies, whatever the others do, and what is answered. No other answer
--- meets this (proofs/Determined). And what the names of this crate mean that plain promises cite.
+-- Rule 3.5 with the numbers themselves: when each refusal of reading a reply applies, whatever
+-- the others do, and what is answered. No other answer meets this (proofs/Determined). And what
+-- the names of this crate mean that plain promises cite.
 use Prim.Native.Nat.{ℕ, _+_, _-_, _/_, _%_, _<_}
 use mathlib.Core.Path.{_≡_}
 use mathlib.Core.Bool.{Bool, true, false}
@@ -13,8 +14,8 @@ use Rattle.reply.specs.Answer.{ReplyAnswer, replyAnswer}
 use Rattle.reply.specs.Reply.{replyBytes}
 
 pub record Pinned : Type 0 where
-  -- Rule 3.1: status, data length in two bytes, data; and, if there is to be one, a checksum over all
-  -- these.
+  -- Rule 3.1: status, data length in two bytes, data; and, if there is to be one, a checksum over
+  -- all these.
   pub without-sum : (status : ℕ) (d : List ℕ) → replyBytes false status d ≡ status ∷ length d % 256 ∷ length d / 256 ∷ d
   pub with-sum : (status : ℕ) (d : List ℕ)
       → replyBytes true status d
@@ -24,9 +25,9 @@ pub record Pinned : Type 0 where
       → replyAnswer (Reply status at size) ≡ record { number = 0; status = status; place = at; size = size }
   pub answer-refused : (number : ℕ) → replyAnswer (Refused number) ≡ record { number = number; status = 0; place = 0; size = 0 }
 
--- Rule 3.5: 2 below three bytes, or four where a checksum is expected; 3 over 512 bytes; 4 where the
--- length does not count the data there; 5 where the last byte is not the checksum of those before it;
--- 10 for a status over 12.
+-- Rule 3.5: 2 below three bytes, or four where a checksum is expected; 3 over 512 bytes; 4 where
+-- the length does not count the data there; 5 where the last byte is not the checksum of those
+-- before it; 10 for a status over 12.
 pub data ReplyRefuses (r : List ℕ) (sum : Bool) : ℕ → Type 0 where
   short : length r < 3 → ReplyRefuses r sum 2
   short-summed : sum ≡ true → length r < 4 → ReplyRefuses r sum 2

@@ -8,7 +8,8 @@ use native.Mathlib.Omega.{arith}
 use Rattle.opcode.specs.Faults.{FirstFault}
 use Rattle.rising.specs.Plain.{RisingPlain}
 
--- Rule 4.6: of two first faults neither stands before the other, for every field before a first fault is within its range.
+-- Rule 4.6: of two first faults neither stands before the other, for every field before a first
+-- fault is within its range.
 not-before : {op o : ℕ} {d : List ℕ} {j k : ℕ} → FirstFault op o d j → FirstFault op o d k → j < k → ⊥
 not-before f g h = let w = g .before h (f .field) in ⊎-elim (λ a. omega arith) (λ a. omega arith) (f .out)
 

@@ -1,4 +1,5 @@
--- What is promised of the splitter with the numbers themselves leaves it one outcome: words can be cut up in one way only, and one number applies.
+-- What is promised of the splitter with the numbers themselves leaves it one outcome: words can
+-- be cut up in one way only, and one number applies.
 use Prim.Native.Nat.{ℕ, _+_, _%_, _≤_}
 use mathlib.Core.Path.{_≡_, refl, sym, ap, _∙_}
 use mathlib.Core.List.{List, _++_}
@@ -9,7 +10,7 @@ use lib.Seq.{take-at, drop-at}
 use Rattle.runs.specs.Pairs.{sumRuns}
 use Rattle.upload.specs.Plan.{joined}
 use Rattle.split.specs.Splitting.{splitOut}
-use Rattle.split.specs.Plain.{SplitOut, CutUp, last, more, PairsRight, Splittable, SplitPlain, PlainNumbers, PlainBytes}
+use Rattle.split.specs.Plain.{SplitOut, CutUp, last, more, PairsRight, Splittable, SplitPlain, SplitPlainNumbers, SplitPlainBytes}
 
 -- Rule 10.3: words are cut up in one way: into all of them, or into the first 250 and the rest.
 cut-one : {colour s t : ℕ} {ws vs : List ℕ} {ps qs : List (List ℕ)} → CutUp colour s ws ps → CutUp colour t vs qs → s ≡ t → ws ≡ vs → ps ≡ qs
@@ -79,10 +80,10 @@ module _ {each colour start : ℕ} {lent ws batch : List ℕ} {o p : SplitOut} (
       ]
 
 -- On 16-bit numbers, and on bytes.
-pub determined-numbers : {colour start : ℕ} {pairs batch : List ℕ} {o p : SplitOut} → PlainNumbers colour start pairs batch o
-    → PlainNumbers colour start pairs batch p → o ≡ p
+pub determined-numbers : {colour start : ℕ} {pairs batch : List ℕ} {o p : SplitOut} → SplitPlainNumbers colour start pairs batch o
+    → SplitPlainNumbers colour start pairs batch p → o ≡ p
 determined-numbers a b = determined a b
 
-pub determined-bytes : {colour start : ℕ} {pairs batch : List ℕ} {o p : SplitOut} → PlainBytes colour start pairs batch o
-    → PlainBytes colour start pairs batch p → o ≡ p
+pub determined-bytes : {colour start : ℕ} {pairs batch : List ℕ} {o p : SplitOut} → SplitPlainBytes colour start pairs batch o
+    → SplitPlainBytes colour start pairs batch p → o ≡ p
 determined-bytes a b = determined a b

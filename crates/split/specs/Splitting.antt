@@ -46,8 +46,8 @@ unfoldable pub splitting : (each colour start : ℕ) → List ℕ → List ℕ �
 splitting each colour start lent ws batch =
     splitBy (first (splitRefusals colour start (not (eqb (length lent % each) 0)) ws batch)) colour start ws batch
 
--- What the splitter promises: the definition's outcome, what is said of it apart from that, how large it can get, and that each packet in the batch
--- has as many bytes as it announces.
+-- What the splitter promises: the definition's outcome; what is said of it apart from that; how large
+-- it can get; and that each packet in the batch has as many bytes as it announces.
 pub record SplitRight (each colour start : ℕ) (lent ws batch : List ℕ) (o : SplitOut) : Type 0 where
   pub outcome : o ≡ splitting each colour start lent ws batch
   pub plain : SplitPlain each colour start lent ws batch o
