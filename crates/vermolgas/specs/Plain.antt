@@ -11,8 +11,8 @@ use Rattle.reply.specs.Plain.{ReplyPlain}
 use Rattle.controller.specs.Rows.{RowsPlain}
 use Rattle.controller8.specs.Bytes.{Lent}
 use Rattle.controller8.specs.Plain.{StepBytesPlain, ResetBytesPlain}
-use Rattle.compress.specs.Plain.{«PlainBytes» as CompressPlain}
-use Rattle.split.specs.Plain.{«PlainBytes» as SplitPlain}
+use Rattle.compress.specs.Plain.{CompressPlainBytes}
+use Rattle.split.specs.Plain.{SplitPlainBytes}
 use Rattle.upload.specs.Plain.{Sheets, PlanBytesPlain}
 
 -- vermolgas_read, rule 2.6: the refusal in bits 0-7, the opcode in 8-15, header bits 3-7 in place in 16-23, the place of the data in 24-31; in 32-47 its size, or on a refusal
@@ -67,7 +67,7 @@ pub record CompressC (gains room : List ℕ) (answer : ℕ) (left : List ℕ) : 
   pub pairs : ℕ
   pub bits : answer ≡ status + 256 * pairs
   pub small : status < 256
-  pub plain : CompressPlain gains room (record { status = status; pairs = pairs; room = left })
+  pub plain : CompressPlainBytes gains room (record { status = status; pairs = pairs; room = left })
 
 -- vermolgas_split, rule 10.4: the status in bits 0-7, the number of packets in 8-31, the batch's bytes from 32 on; and the batch as it is left.
 pub record SplitC (colour start : ℕ) (pairs batch : List ℕ) (answer : ℕ) (left : List ℕ) : Type 0 where
@@ -76,7 +76,7 @@ pub record SplitC (colour start : ℕ) (pairs batch : List ℕ) (answer : ℕ) (
   pub size : ℕ
   pub bits : answer ≡ status + 256 * packets + 4294967296 * size
   pub small : (status < 256) × (packets < 16777216)
-  pub plain : SplitPlain colour start pairs batch (record { status = status; packets = packets; bytes = size; batch = left })
+  pub plain : SplitPlainBytes colour start pairs batch (record { status = status; packets = packets; bytes = size; batch = left })
 
 -- vermolgas_plan, rule 6.4: the same bits; and every lent list as it is left.
 pub record PlanC (n : ℕ) (held wanted : List ℕ) (before : Sheets) (answer : ℕ) (left : Sheets) : Type 0 where
