@@ -13,7 +13,8 @@ use Rattle.wire.specs.Numbers.{byteAt, wordAt}
 use Rattle.wire.specs.Tables.{words}
 use Rattle.wire.proofs.Tables.{pairs-halves, length-halves}
 use Rattle.wire.proofs.Tests.{silent-first, first-right, first-silent}
-use Rattle.runs.specs.Pairs.{Pairs, expand, sumRuns}
+use Rattle.runs.specs.Pairs.{expand, sumRuns}
+use Rattle.runs.specs.Plain.{Pairs}
 use Rattle.runs.proofs.Right.{pairs-even}
 use Rattle.runs.proofs.Expand.{length-expand, expand-append, sum-append, pairs-both}
 use Rattle.opcode.specs.Commands.{commandOf}

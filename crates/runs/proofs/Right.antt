@@ -12,7 +12,8 @@ use Rattle.wire.specs.Tables.{words}
 use Rattle.wire.proofs.Tables.{length-pairs}
 use Rattle.wire.proofs.Tests.{told}
 use Rattle.runs.specs.Gains.{mostGain, firstLarge}
-use Rattle.runs.specs.Pairs.{colourGains, Pairs, none, pair, runWrong, pairFault}
+use Rattle.runs.specs.Pairs.{colourGains, runWrong, pairFault}
+use Rattle.runs.specs.Plain.{Pairs, none, pair}
 use Rattle.runs.proofs.Places.{gains-first}
 
 -- Gains.

@@ -1,5 +1,5 @@
 -- Rule 5.11: compressed gains. Words come in pairs of a run and a gain, flat in one list; a last word alone is no pair.
-use Prim.Native.Nat.{ℕ, suc, _+_, _≤_}
+use Prim.Native.Nat.{ℕ, suc, _+_}
 use mathlib.Core.Bool.{Bool, cond, not, _&&_}
 use mathlib.Core.List.{List, [], _∷_, _++_}
 use lib.ListN.{replicate}
@@ -21,11 +21,6 @@ unfoldable pub sumRuns : List ℕ → ℕ
 sumRuns [] = 0
 sumRuns (run ∷ []) = 0
 sumRuns (run ∷ gain ∷ rest) = run + sumRuns rest
-
--- Rule 5.11: what pairs may be, said apart from the tests: each run 1 to 2,016, each gain at most 8,191.
-pub data Pairs : List ℕ → Type 0 where
-  none : Pairs []
-  pair : {run gain : ℕ} {rest : List ℕ} → 1 ≤ run → run ≤ 2016 → gain ≤ 8191 → Pairs rest → Pairs (run ∷ gain ∷ rest)
 
 -- Rule 5.11: a run of 0, or longer than a colour.
 abbrev pub runWrong : ℕ → Bool

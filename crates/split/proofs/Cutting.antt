@@ -10,7 +10,8 @@ use lib.ListN.{length, take, drop, length-take, length-drop, length-append, take
 use lib.Seq.{take-all}
 use Rattle.wire.proofs.Tables.{length-halves}
 use Rattle.packet.specs.Frame.{announced}
-use Rattle.runs.specs.Pairs.{sumRuns, Pairs, none, pair}
+use Rattle.runs.specs.Pairs.{sumRuns}
+use Rattle.runs.specs.Plain.{Pairs, none, pair}
 use Rattle.runs.proofs.Right.{pairs-even}
 use Rattle.upload.specs.Plan.{joined, EachAnnounced}
 use Rattle.batch.specs.Pairs.{pairsPacket}

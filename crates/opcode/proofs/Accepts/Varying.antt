@@ -15,7 +15,7 @@ use Rattle.opcode.specs.Fields.{word, fault, wordsAt, rise}
 use Rattle.opcode.specs.Commands.{commandOf, flag}
 use Rattle.opcode.specs.Judgement.{pointsSizeWrong, smoothSizeWrong, smoothFault, inPairs, gainsSizeWrong, wordsFault, gainsFault, controlSizeWrong, controlFault, listsFault}
 use Rattle.opcode.specs.Allowed.{WriteData, points, smooth, shape, lists, Rising}
-use Rattle.runs.specs.Pairs.{Pairs}
+use Rattle.runs.specs.Plain.{Pairs}
 use Rattle.wire.proofs.Tests.{told}
 use Rattle.wire.proofs.Tables.{length-pairs}
 use Rattle.runs.proofs.Right.{small-gains, gains-small, fault-pairs, pairs-fault, pairs-even}
