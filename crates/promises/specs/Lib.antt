@@ -1,0 +1,2 @@
+-- That the plain promises of every entry hold of one outcome at most.
+pub mod Determined

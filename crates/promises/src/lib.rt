@@ -1,0 +1,7 @@
+// The plain promises determine every answer: two outcomes of an entry that both meet them are equal (see specs/ and proofs/).
+ghost use Rattle.promises.specs.Determined.{Named, OnNumbers, OnBytes, ForC};
+
+// Nothing to run: its contract is the list. What the names mean that plain promises cite; and each entry's theorem, on numbers, on bytes and for C.
+pub fn determined()
+    ensures { λ _. ⌜ Named × OnNumbers × OnBytes × ForC ⌝ }
+{}
