@@ -9,9 +9,8 @@ use records::KEPT_SIZE;
 use settings::layout::BLOCK_SIZE;
 ghost use Prim.Native.Nat.{_+_, _<_};
 ghost use mathlib.Core.Path.{_≡_};
-ghost use Rattle.controller.specs.State.{state};
-ghost use Rattle.playback.specs.Windows.{progress as progressAt};
-ghost use Rattle.replay.specs.Played.{PlayedSome, Played, wayOf};
+ghost use Rattle.controller.specs.State.{state, resetState};
+ghost use Rattle.replay.specs.Played.{PlayedSome, Played, wayOf, carried, WindowTaken, Closed, Ran};
 
 // As much as a pipe holds.
 const WINDOW_SIZE: usize = 65536;
@@ -68,7 +67,10 @@ fn run(
     gains: &mut [u16],
     reply: &mut [u8],
     out: &mut [u8],
-) {
+)
+    requires { ⌜ state (now block) (now staged) (now live) (now gains) ≡ resetState ⌝ }
+    ensures { λ _. ⌜ Ran (now (kept .exit)) (state (now (block .exit)) (now (staged .exit)) (now (live .exit)) (now (gains .exit))) (now (out .exit)) ⌝ }
+{
     let mut s = Stand {
         marked: 0,
         number: 0,
@@ -94,7 +96,10 @@ fn one_window(
     gains: &mut [u16],
     reply: &mut [u8],
     out: &mut [u8],
-) -> Stand {
+) -> Stand
+    ensures { λ r. ⌜ WindowTaken s (now (kept .entry)) (state (now (block .entry)) (now (staged .entry)) (now (live .entry)) (now (gains .entry)))
+        (now (window .exit)) r (now (kept .exit)) (state (now (block .exit)) (now (staged .exit)) (now (live .exit)) (now (gains .exit))) ⌝ }
+{
     let got = libc::read(STDIN_FILENO, window);
     let n = io::count(got, window);
     let p = play(
@@ -118,7 +123,7 @@ fn one_window(
 
 // The same, at the start of a window.
 fn progress(s: Stand) -> Progress
-    ensures { λ r. ⌜ r ≡ progressAt 0 0 (s .marked) (s .number) (s .have) ⌝ }
+    ensures { λ r. ⌜ r ≡ carried s ⌝ }
 {
     Progress {
         at: 0,
@@ -134,11 +139,11 @@ fn progress(s: Stand) -> Progress
 fn way(failed: bool, n: usize, p: Progress) -> usize
     ensures { λ r. ⌜ r ≡ wayOf failed n p ⌝ }
 {
-    if failed {
-        return UNREADABLE;
-    }
     if p.at != n {
         return UNWRITABLE;
+    }
+    if failed {
+        return UNREADABLE;
     }
     if n == 0 {
         return ENDED;
@@ -152,13 +157,15 @@ fn way(failed: bool, n: usize, p: Progress) -> usize
 // The reads that are left: none, unless it goes on.
 fn left(turns: u64, how: usize) -> u64
     requires { ⌜ 0 < turns ⌝ }
-    ensures { λ r. ⌜ (r < turns) × (how ≡ 0 → r + 1 ≡ turns) ⌝ }
+    ensures { λ r. ⌜ (r < turns) × (how ≡ 0 → r + 1 ≡ turns) × (0 < r → how ≡ 0) ⌝ }
 {
     if how == MORE { turns - 1 } else { 0 }
 }
 
 // The last lines: none behind a write that failed.
-fn close(s: Stand, out: &mut [u8]) {
+fn close(s: Stand, out: &mut [u8])
+    ensures { λ _. ⌜ Closed s (now (out .entry)) (now (out .exit)) ⌝ }
+{
     if s.how == UNWRITABLE {
         return;
     }

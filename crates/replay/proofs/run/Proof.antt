@@ -1,4 +1,8 @@
-use mathlib.Core.Path.{_≡_}
+use Prim.Native.Nat.{_<_}
+use Rattle.controller.specs.State.{state}
+use Rattle.replay.specs.Played.{ReadSoFar}
+use Rattle.replay.proofs.Carried.{read-none, read-on}
+use mathlib.Core.Path.{_≡_, refl}
 use lib.ListN.{length}
 use borrow.Author.Needs.{needs}
 use Rattle.replay.proofs.run.Statement.{statement}
@@ -11,72 +15,59 @@ use Rattle.replay.proofs.one_window.Reads as one-window-reads
 
 abbrev Inv-loop : tie.InvT-loop
 Inv-loop window₀ kept₀ block₀ staged₀ live₀ gains₀ reply₀ out₀ s₀ turns₀ window kept block staged live gains reply out s turns =
-    (length window ≡ length window₀) × (length kept ≡ length kept₀) × (length block ≡ length block₀) × (length staged ≡ length staged₀)
+    ReadSoFar s kept (state block staged live gains) × (0 < turns → s .how ≡ 0)
+    × (length window ≡ length window₀) × (length kept ≡ length kept₀) × (length block ≡ length block₀) × (length staged ≡ length staged₀)
     × (length live ≡ length live₀) × (length gains ≡ length gains₀) × (length reply ≡ length reply₀) × (length out ≡ length out₀)
 
 abbrev μ-loop : tie.MeasureT-loop
 μ-loop window₀ kept₀ block₀ staged₀ live₀ gains₀ reply₀ out₀ s₀ turns₀ window kept block staged live gains reply out s turns =
     turns
 
--- src/main.rt:69:5
 loop-holds : tie.Need-loop-holds Inv-loop μ-loop
-loop-holds c = search needs
+loop-holds c = (read-none _ _ _ (c .before .before .before .before .before .before .before .before .pre) refl refl refl, λ some. refl, refl, refl, refl, refl, refl, refl, refl, refl)
 
--- src/main.rt:70:9
 one-window-requires : tie.Need-one-window-requires Inv-loop μ-loop
 one-window-requires c κs = search needs
 
--- src/main.rt:71:9
 left-requires : tie.Need-left-requires Inv-loop μ-loop
 left-requires c κs = search needs
 
--- src/main.rt:69:5
 loop-less : tie.Need-loop-less Inv-loop μ-loop
 loop-less c = search needs
 
--- src/main.rt:69:5
 loop-again : tie.Need-loop-again Inv-loop μ-loop
-loop-again c = search needs
+loop-again c =
+    (read-on (c .before .before .before .before .before .before .before .before .before .before .before .before .before .before .before .before .before .before .before .before .before .before .before .before .before .before .before .loop .inv .0) (c .before .before .before .before .before .before .before .before .before .before .before .before .before .before .before .before .before .before .before .before .before .before .before .before .before .before .before .loop .inv .1 (c .before .before .before .before .before .before .before .before .before .before .before .before .before .before .before .before .before .before .before .before .before .before .before .before .before .before .loop-test .taken)) (c .before .before .before .before .before .before .before .before .before .before .before .before .before .before .before .before .before .one-window .ensures), c .left .ensures .2, search needs, search needs, search needs, search needs, search needs, search needs, search needs, search needs)
 
--- src/main.rt:73:5
 close-requires : tie.Need-close-requires Inv-loop μ-loop
 close-requires c κs = search needs
 
--- src/main.rt:52:1
 same-length : tie.Need-same-length Inv-loop μ-loop
 same-length c = search needs
 
--- src/main.rt:52:1
 same-length-2 : tie.Need-same-length-2 Inv-loop μ-loop
 same-length-2 c = search needs
 
--- src/main.rt:52:1
 same-length-3 : tie.Need-same-length-3 Inv-loop μ-loop
 same-length-3 c = search needs
 
--- src/main.rt:52:1
 same-length-4 : tie.Need-same-length-4 Inv-loop μ-loop
 same-length-4 c = search needs
 
--- src/main.rt:52:1
 same-length-5 : tie.Need-same-length-5 Inv-loop μ-loop
 same-length-5 c = search needs
 
--- src/main.rt:52:1
 same-length-6 : tie.Need-same-length-6 Inv-loop μ-loop
 same-length-6 c = search needs
 
--- src/main.rt:52:1
 same-length-7 : tie.Need-same-length-7 Inv-loop μ-loop
 same-length-7 c = search needs
 
--- src/main.rt:52:1
 same-length-8 : tie.Need-same-length-8 Inv-loop μ-loop
 same-length-8 c = search needs
 
--- src/main.rt:52:1
 returns : tie.Need-returns Inv-loop μ-loop
-returns c = search needs
+returns c = record { last = c .before .before .before .before .before .loop .s; read = c .before .before .before .before .before .loop .inv .0; out = c .before .before .before .before .before .loop .out; closed = c .before .before .close .ensures }
 
 pub run-spec : {M : Type 1} → statement M
 run-spec =
