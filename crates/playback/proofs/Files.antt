@@ -10,10 +10,11 @@ use borrow.Author.Tests.{eqb-true, eqb-false, ne-eqb, le-leb, lt-ltb}
 use lib.ListN.{length, take, drop, getD, length-append, length-replicate, List·getD-append}
 use lib.Seq.{length-sets, sets-eq, take-append-seam}
 use lib.Dec.{eqb}
+use Rattle.wire.specs.Plain.{Bytes}
 use Rattle.wire.specs.Buffers.{over}
 use Rattle.wire.proofs.Laws.{take-over}
-use Rattle.text.specs.Text.{decimal, hex, Decimal, Puts}
-use Rattle.text.proofs.Forms.{decimal-right, hex-right, decimal-first, length-decimal}
+use Rattle.text.specs.Text.{decimal, Puts}
+use Rattle.text.proofs.Forms.{decimal-first, length-decimal}
 use Rattle.settings.specs.Reset.{resetShape, resetBlock, resetMap, resetGains}
 use Rattle.settings.proofs.Allowed.{reset-allowed}
 use Rattle.controller.specs.State.{State, resetState}
@@ -23,13 +24,14 @@ use Rattle.controller.specs.Calls.{stateAfterAll}
 use Rattle.controller.specs.Plain.{LentRight}
 use Rattle.controller.proofs.Demands.{runs, right-running, demand1}
 use Rattle.controller.proofs.InRange.{stays-lent}
-use Rattle.records.specs.Session.{Run, mark, start, taken, fileRun, Splits, ends, next}
+use Rattle.records.specs.Session.{Run, start, taken, fileRun}
+use Rattle.records.specs.Plain.{Marked, Splits, ends, next}
 use Rattle.records.proofs.Runs.{taken-append}
 use Rattle.records.proofs.File.{file-read}
 use Rattle.playback.specs.declared.Progress.{Progress}
 use Rattle.playback.specs.Replay.{replyBuffer, line, lines, stateAfterRecords, cutWord, endLine, notASession, closing, textOf, replayText, endState, Formed}
 use Rattle.playback.specs.Windows.{progress, Stands, Full, WindowReplayed, closingText}
-use Rattle.playback.specs.Theorems.{Bytes, Called, WholeText, Says, Recounts, Closes, NoneStopped, Recorded, OverLong}
+use Rattle.playback.specs.Theorems.{Called, WholeText, NoneStopped, OverLong}
 use Rattle.playback.proofs.Lines.{length-buffer, number-long, front-line, formed-append}
 
 -- ---- Windows one after another.
@@ -131,63 +133,12 @@ any-split {bytes = bytes} {text = text} {p = p} c =
       moves = λ w. moved so w;
     }
 
--- ---- What lines say.
-
-says : (n status : ℕ) (reply : List ℕ) → Says n status reply (line n status reply)
-unfolding line
-says n status reply =
-    record {
-      number-text = decimal n;
-      status-text = decimal status;
-      reply-text = hex reply;
-      all = refl;
-      number-there = λ h. decimal-right n h;
-      status-there = λ h. decimal-right status h;
-      reply-there = λ h. hex-right reply h;
-    }
-
-pub recounts : (n : ℕ) (packets : List (List ℕ)) (s : State) → Recounts n packets s (lines n packets s)
-unfolding lines
-recounts n [] s = Recounts.none
-recounts n (p ∷ ps) s =
-    Recounts.next (says (n + 1) (step p s replyBuffer .status) (take (step p s replyBuffer .size) (step p s replyBuffer .reply)))
-    (recounts (n + 1) ps (step p s replyBuffer .state))
-
--- Rules 9.3 and 9.4.
-pub closes : (marked number have : ℕ) → number < 18446744073709551615 → Closes marked number have (closing marked number have)
-unfolding closing
-closes marked number have few = go (eqb marked 5) (eqb have 0) refl refl
-  where
-    n : Decimal number (decimal number)
-    n = decimal-right number (omega arith)
-
-    some : (have ≡ 0 → ⊥) → 0 < have
-    some h = elim (decLt 0 have) [ yes lt ↦ lt | no ge ↦ absurd (h (omega arith)) ]
-
-    go : (a b : Bool) → eqb marked 5 ≡ a → eqb have 0 ≡ b
-        → Closes marked number have (cond a (cond b [] (decimal (number + 1) ++ cutWord) ++ endLine number) notASession)
-    go true true e f = Closes.whole (eqb-true marked 5 e) (eqb-true have 0 f) n
-    go true false e f = Closes.cut (eqb-true marked 5 e) (some (eqb-false have 0 f)) (decimal-right (number + 1) (omega arith)) n
-    go false b e f = Closes.other (eqb-false marked 5 e)
-
 -- ---- Files with the mark, and without it.
 
-text-is : (r : Run) (s : State) (marked : ℕ) (packets : List (List ℕ)) (h : List ℕ) → r .marked ≡ marked → r .whole ≡ packets → r .under ≡ h
+pub text-is : (r : Run) (s : State) (marked : ℕ) (packets : List (List ℕ)) (h : List ℕ) → r .marked ≡ marked → r .whole ≡ packets → r .under ≡ h
     → textOf r s ≡ lines 0 packets s ++ closing marked (length packets) (length h)
 unfolding textOf
 text-is r s marked packets h a b c = cc
-
--- Rules 9.2, 9.3 and 9.6: the records that the bytes split into are the only ones.
-pub recorded : (file : List ℕ) → take 5 file ≡ mark → (packets : List (List ℕ)) (h : List ℕ) → Splits (drop 5 file) packets h
-    → Recorded packets h file
-unfolding replayText endState
-recorded file e packets h split =
-    let read = file-read file in
-    let only = read .only e packets h split in
-    record {
-      text = text-is (fileRun file) resetState 5 packets h (read .session .1 e) (only .0) (only .1);
-      state = ap (λ (ps : List (List ℕ)). stateAfterRecords ps resetState) (only .0);
-    }
 
 -- Text that begins with a number does not begin with an `n`.
 number-first : (n : ℕ) (rest : List ℕ) → getD (decimal n ++ rest) 0 0 ≡ 110 → ⊥
@@ -208,12 +159,12 @@ unfolding lines
 text-first [] n have s e = closing-first n have e
 text-first (p ∷ ps) n have s e = lines-first 0 p ps s (closing 5 n have) e
 
-closing-none : (marked n have : ℕ) → (marked ≡ 5 → ⊥) → closing marked n have ≡ notASession
+pub closing-none : (marked n have : ℕ) → (marked ≡ 5 → ⊥) → closing marked n have ≡ notASession
 unfolding closing
 closing-none marked n have wrong = rw (ne-eqb marked 5 wrong)
 
 -- Rule 9.4.
-pub not-a-session : (file : List ℕ) → (replayText file ≡ notASession) ↔ (take 5 file ≡ mark → ⊥)
+pub not-a-session : (file : List ℕ) → (replayText file ≡ notASession) ↔ (Marked file → ⊥)
 unfolding replayText lines
 not-a-session file =
     let r : Run = fileRun file in

@@ -3,3 +3,5 @@ pub mod Turns
 pub mod Closing
 pub mod Files
 pub mod Example
+pub mod Plain
+pub mod Determined

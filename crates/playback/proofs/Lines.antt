@@ -17,7 +17,8 @@ use Rattle.opcode.specs.Options.{hasSum, asksReply, isRead}
 use Rattle.opcode.specs.Judgement.{judgement}
 use Rattle.packet.specs.Frame.{headerOf}
 use Rattle.packet.specs.Reading.{tooShort, tooLong}
-use Rattle.text.specs.Text.{decimal, hex, Decimal, Hex, Puts}
+use Rattle.text.specs.Text.{decimal, hex, Puts}
+use Rattle.text.specs.Plain.{Decimal, Hex}
 use Rattle.controller.specs.State.{State, stopped}
 use Rattle.controller.specs.Step.{numberOf, answers, replyTo, stateAfter, step}
 use Rattle.controller.specs.Calls.{callsOf, stateAfterAll}

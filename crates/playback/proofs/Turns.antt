@@ -12,7 +12,8 @@ use lib.Dec.{leb, ltb}
 use Rattle.wire.proofs.Tests.{and-left, and-right}
 use Rattle.wire.specs.First.{first}
 use Rattle.wire.specs.Buffers.{over}
-use Rattle.text.specs.Text.{decimal, hex, Decimal, Hex, Puts}
+use Rattle.text.specs.Text.{decimal, hex, Puts}
+use Rattle.text.specs.Plain.{Decimal, Hex}
 use Rattle.controller.specs.State.{State, stopped}
 use Rattle.controller.specs.Step.{Out, out, readAndPlaced, numberOf, replyTo, step}
 use Rattle.controller.proofs.Bounds.{placed-number}
@@ -83,7 +84,7 @@ replay-on {window} {from} {p} {q} {kept} {kept'} {kept''} {s} {s'} {s''} {out} {
 
 -- ---- A record's line.
 
-status-small : (p : List ℕ) (s : State) (reply : List ℕ) → step p s reply .status ≤ 12
+pub status-small : (p : List ℕ) (s : State) (reply : List ℕ) → step p s reply .status ≤ 12
 unfolding step numberOf
 status-small p s reply = go (stopped s reply)
   where

@@ -2,3 +2,4 @@
 pub mod Replay
 pub mod Windows
 pub mod Theorems
+pub mod Plain

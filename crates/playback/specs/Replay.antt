@@ -4,7 +4,8 @@ use mathlib.Core.Bool.{cond}
 use mathlib.Core.List.{List, [], _∷_, _++_}
 use lib.ListN.{length, take, replicate}
 use lib.Dec.{eqb}
-use Rattle.text.specs.Text.{blank, newline, decimal, hex, Decimal, Hex}
+use Rattle.text.specs.Text.{blank, newline, decimal, hex}
+use Rattle.text.specs.Plain.{Decimal, Hex}
 use Rattle.controller.specs.State.{State, replyRoom, resetState}
 use Rattle.controller.specs.Step.{Out, step}
 use Rattle.controller.specs.Calls.{callsOf, stateAfterAll}

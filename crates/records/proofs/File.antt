@@ -13,7 +13,8 @@ use lib.Dec.{eqb, leb}
 use Rattle.wire.specs.Numbers.{wordAt}
 use Rattle.wire.proofs.Tests.{and-left, and-right}
 use Rattle.records.specs.Session.{Run, run, mark, start, isWhole, recorded, markedBy, grown, taken, fileRun, takenAll}
-use Rattle.records.specs.Session.{Cut, Splits, ends, next, FileRead}
+use Rattle.records.specs.Session.{FileRead}
+use Rattle.records.specs.Plain.{Cut, Splits, ends, next}
 use Rattle.records.proofs.Runs.{taken-append, recorded-cut, recorded-whole, reaches, grown-mark, taken-spoiled}
 use Rattle.records.proofs.Kept.{word-append}
 

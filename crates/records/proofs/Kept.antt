@@ -13,7 +13,8 @@ use lib.Dec.{ltb, leb, eqb}
 use Rattle.wire.specs.Numbers.{byteAt, wordAt}
 use Rattle.wire.proofs.Tests.{or-left, or-right}
 use Rattle.records.specs.declared.Taken.{Taken}
-use Rattle.records.specs.Session.{Run, run, recorded, markedBy, grown, taken, Cut}
+use Rattle.records.specs.Session.{Run, run, recorded, markedBy, grown, taken}
+use Rattle.records.specs.Plain.{Cut}
 use Rattle.records.specs.Windows.{keptSize, mostRecord, Stands, Within, found, part, Went, Follows}
 use Rattle.records.specs.Windows.{nothing, wholeRecord, lacking, taking, keptAfter, afterTaking}
 use Rattle.records.proofs.Runs.{reaches, recorded-cut, recorded-whole, full, grown-mark, taken-spoiled}

@@ -11,7 +11,8 @@ use lib.Seq.{append-snoc, length-take-le, getD-take, take-append-add}
 use lib.Dec.{eqb, leb}
 use Rattle.wire.specs.Numbers.{wordAt}
 use Rattle.wire.proofs.Tests.{and-left, and-right}
-use Rattle.records.specs.Session.{Run, run, mark, spoiled, isWhole, recorded, markedBy, grown, taken, Cut}
+use Rattle.records.specs.Session.{Run, run, mark, spoiled, isWhole, recorded, markedBy, grown, taken}
+use Rattle.records.specs.Plain.{Cut}
 
 -- Rule 9.6: bytes behind others, taken as they come.
 pub taken-append : (r : Run) (a b : List ℕ) → taken r (a ++ b) ≡ taken (taken r a) b

@@ -11,7 +11,8 @@ use lib.Dec.{ltb, eqb}
 use Rattle.wire.specs.Numbers.{wordAt}
 use Rattle.wire.proofs.Tests.{and-left, and-right}
 use Rattle.records.specs.declared.Taken.{Taken}
-use Rattle.records.specs.Session.{Run, run, markedBy, grown, taken, Cut}
+use Rattle.records.specs.Session.{Run, run, markedBy, grown, taken}
+use Rattle.records.specs.Plain.{Cut}
 use Rattle.records.specs.Windows.{keptSize, mostRecord, Stands, Within, part, Went, Follows, Stepped}
 use Rattle.records.specs.Windows.{nothing, wholeRecord, taking, keptAfter, afterTaking, liesWhole, nextKept, nextTaken}
 use Rattle.records.proofs.Runs.{reaches, recorded-whole, grown-mark, taken-spoiled}

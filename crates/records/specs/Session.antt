@@ -1,12 +1,13 @@
 -- Rules 9.1 and 9.3: what the bytes of a session file are.
-use Prim.Native.Nat.{ℕ, _+_, _*_, _≤_, _<_}
+use Prim.Native.Nat.{ℕ, _+_}
 use mathlib.Core.Path.{_≡_}
 use mathlib.Core.Logic.{_↔_}
 use mathlib.Core.Bool.{Bool, cond, _&&_}
 use mathlib.Core.List.{List, [], _∷_, _++_, flatten}
-use lib.ListN.{length, take, drop, getD}
+use lib.ListN.{length, drop, getD}
 use lib.Dec.{eqb, leb, ltb}
 use Rattle.wire.specs.Numbers.{wordAt}
+use Rattle.records.specs.Plain.{Marked, Splits}
 
 -- Rule 9.1: mark and version.
 abbrev pub mark : List ℕ
@@ -65,26 +66,15 @@ isSession file = eqb (fileRun file .marked) markSize
 
 -- ---- The same, apart from the reading byte by byte.
 
--- Rule 9.3: no whole record stands at the start of the bytes: under two, or under what the length asks for.
-pub record Cut (h : List ℕ) : Type 0 where
-  pub short : 2 ≤ length h → length h < 2 + wordAt h 0
-
--- Rules 9.1 and 9.3: bytes are records, one behind the other, each with its length before it, and what is left is none.
-pub data Splits : List ℕ → List (List ℕ) → List ℕ → Type 0 where
-  ends : {h : List ℕ} → Cut h → Splits h [] h
-  next : {low high : ℕ} {packet rest : List ℕ} {packets : List (List ℕ)} {h : List ℕ}
-      → low + 256 * high ≡ length packet → Splits rest packets h
-      → Splits (low ∷ high ∷ (packet ++ rest)) (packet ∷ packets) h
-
 -- Rules 9.1, 9.3 and 9.4: a file is a session exactly if it begins with the mark; its records and what is left of it are then the only ones that
 -- the bytes behind the mark split into.
 pub record FileRead (file : List ℕ) : Type 0 where
-  pub session : (fileRun file .marked ≡ 5) ↔ (take 5 file ≡ mark)
-  pub splits : take 5 file ≡ mark → Splits (drop 5 file) (fileRun file .whole) (fileRun file .under)
-  pub only : take 5 file ≡ mark → (packets : List (List ℕ)) (h : List ℕ) → Splits (drop 5 file) packets h
+  pub session : (fileRun file .marked ≡ 5) ↔ Marked file
+  pub splits : Marked file → Splits (drop 5 file) (fileRun file .whole) (fileRun file .under)
+  pub only : Marked file → (packets : List (List ℕ)) (h : List ℕ) → Splits (drop 5 file) packets h
       → (fileRun file .whole ≡ packets) × (fileRun file .under ≡ h)
   -- Rule 9.4: of another file no record is taken.
-  pub none : (take 5 file ≡ mark → ⊥) → fileRun file .whole ≡ []
+  pub none : (Marked file → ⊥) → fileRun file .whole ≡ []
 
 -- Rule 9.6: windows, taken one after another, each where the one before it ended.
 abbrev pub takenAll : Run → List (List ℕ) → Run

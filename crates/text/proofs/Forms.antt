@@ -2,14 +2,14 @@
 -- hex is two upper-case digits for each byte, behind a blank.
 use Prim.Native.Nat.{ℕ, zero, suc, _+_, _*_, _-_, _/_, _%_, _^_, _≤_, _<_}
 use mathlib.Core.Path.{_≡_, refl}
-use mathlib.Core.Logic.{inl, inr}
 use mathlib.Core.List.{List, [], _∷_, _++_}
 use native.Mathlib.Nat.{pow-succ'}
 use native.Mathlib.Omega.{arith}
 use native.Mathlib.Decide.{decLt}
 use borrow.Author.Tests.{lt-ltb, le-ltb}
 use lib.ListN.{length, take, getD, List·getD-append}
-use Rattle.text.specs.Text.{digit, digits, decimal, hex, valueOf, Digits, last, more, Decimal, HexDigit, Hex, none, byte}
+use Rattle.text.specs.Text.{digit, digits, decimal, hex}
+use Rattle.text.specs.Plain.{valueOf, Digits, last, more, Decimal, HexDigit, InHex, none, byte, Hex}
 use Rattle.text.proofs.Number.{digits-one, digits-more, digits-most, digits-some, few}
 use Rattle.text.proofs.Bytes as bytes
 
@@ -107,26 +107,20 @@ decimal-right n h =
 
 -- ---- Hex
 
-hex-digit : (d : ℕ) → d < 16 → HexDigit d (digit d)
-hex-digit d h =
+hex-digit : (d : ℕ) → HexDigit d (digit d)
+hex-digit d =
     elim (decLt d 10) [
-      | yes l ↦
-          rw (lt-ltb d 10 l)
-          (record { below-ten = λ _. refl; from-ten = λ g. absurd (omega arith); range = inl (omega arith, omega arith) })
-      | no l ↦
-          rw (le-ltb d 10 (omega arith))
-          (record { below-ten = λ g. absurd (omega arith); from-ten = λ g. omega arith; range = inr (omega arith, omega arith) })
+      | yes l ↦ rw (lt-ltb d 10 l) (record { below-ten = λ _. refl; from-ten = λ g. absurd (omega arith) })
+      | no l ↦ rw (le-ltb d 10 (omega arith)) (record { below-ten = λ g. absurd (omega arith); from-ten = λ g. omega arith })
     ]
 
-pub hex-right : (bs : List ℕ) → ((k : ℕ) → getD bs k 0 < 256) → Hex bs (hex bs)
+pub in-hex : (bs : List ℕ) → InHex bs (hex bs)
 unfolding hex
-hex-right [] h = none
-hex-right (b ∷ bs) h =
-    let e : 16 * (b / 16) + b % 16 ≡ b = omega arith in
-    let small : b < 256 = h 0 in
-    rw e at
-    (byte {h = b / 16} {l = b % 16} (omega arith) (omega arith) (hex-digit (b / 16) (omega arith)) (hex-digit (b % 16) (omega arith))
-    (hex-right bs (λ k. h (suc k))))
+in-hex [] = none
+in-hex (b ∷ bs) = byte (hex-digit (b / 16)) (hex-digit (b % 16)) (in-hex bs)
+
+pub hex-right : (bs : List ℕ) → ((k : ℕ) → getD bs k 0 < 256) → Hex bs (hex bs)
+hex-right bs h = record { all-bytes = h; in-hex = in-hex bs }
 
 -- The first of some bytes are bytes.
 pub bytes-take : (n : ℕ) (bs : List ℕ) → ((k : ℕ) → getD bs k 0 < 256) → (k : ℕ) → getD (take n bs) k 0 < 256

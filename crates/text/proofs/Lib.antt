@@ -1,3 +1,4 @@
 pub mod Number
 pub mod Bytes
 pub mod Forms
+pub mod Determined

@@ -1,10 +1,9 @@
 -- Rule 9.2: text as bytes in ASCII.
-use Prim.Native.Nat.{ℕ, zero, suc, _+_, _*_, _-_, _/_, _%_, _≤_, _<_}
+use Prim.Native.Nat.{ℕ, zero, suc, _+_, _/_, _%_}
 use mathlib.Core.Path.{_≡_}
-use mathlib.Core.Logic.{_⊎_}
 use mathlib.Core.Bool.{cond}
 use mathlib.Core.List.{List, [], _∷_, _++_}
-use lib.ListN.{length, getD}
+use lib.ListN.{length}
 use lib.Seq.{sets}
 use lib.Dec.{ltb}
 
@@ -39,34 +38,3 @@ hex (b ∷ bs) = blank ∷ digit (b / 16) ∷ digit (b % 16) ∷ hex bs
 pub record Puts (at : ℕ) (text : List ℕ) (entry exit : List ℕ) (end : ℕ) : Type 0 where
   pub ends : end ≡ at + length text
   pub exits : exit ≡ sets entry at text
-
--- ---- What is right of such text, said apart from how it is made: it reads back.
-
--- The number that decimal digits stand for.
-abbrev pub valueOf : ℕ → List ℕ → ℕ
-valueOf v [] = v
-valueOf v (c ∷ cs) = valueOf (10 * v + (c - 48)) cs
-
--- Rule 9.2: digits 0 to 9 alone.
-pub data Digits : List ℕ → Type 0 where
-  last : Digits []
-  more : {c : ℕ} {cs : List ℕ} → 48 ≤ c → c ≤ 57 → Digits cs → Digits (c ∷ cs)
-
--- Rule 9.2: decimal, and no 0 in front: what begins with a 0 is that digit alone.
-pub record Decimal (n : ℕ) (text : List ℕ) : Type 0 where
-  pub some : 1 ≤ length text
-  pub digits-only : Digits text
-  pub value : valueOf 0 text ≡ n
-  pub no-zero : getD text 0 0 ≡ 48 → length text ≡ 1
-
--- Rule 9.2: an upper-case hex digit for a number below sixteen.
-pub record HexDigit (d : ℕ) (c : ℕ) : Type 0 where
-  pub below-ten : d < 10 → c ≡ 48 + d
-  pub from-ten : 10 ≤ d → c ≡ 65 + (d - 10)
-  pub range : ((48 ≤ c) × (c ≤ 57)) ⊎ ((65 ≤ c) × (c ≤ 70))
-
--- Rule 9.2: two digits a byte, and a blank before them.
-pub data Hex : List ℕ → List ℕ → Type 0 where
-  none : Hex [] []
-  byte : {h l c d : ℕ} {bs cs : List ℕ} → h < 16 → l < 16 → HexDigit h c → HexDigit l d → Hex bs cs
-      → Hex ((16 * h + l) ∷ bs) (32 ∷ c ∷ d ∷ cs)

@@ -4,7 +4,8 @@ ghost use mathlib.Core.Path.{_≡_};
 ghost use mathlib.Core.List.{[], _∷_};
 ghost use lib.ListN.{length, take};
 ghost use lib.Seq.{sets};
-ghost use Rattle.text.specs.Text.{blank, decimal, digit as digitOf, hex as hexOf, mostDigits, Puts, Decimal, Hex};
+ghost use Rattle.text.specs.Text.{blank, decimal, digit as digitOf, hex as hexOf, mostDigits, Puts};
+ghost use Rattle.text.specs.Plain.{Decimal, Hex};
 use wire::copy;
 
 // A number in decimal, rule 9.2.

@@ -1,5 +1,7 @@
 -- Each theorem of the list, where it is proved.
-use Rattle.playback.proofs.Files.{any-split, recounts, closes, recorded, not-a-session, none-stopped, stays-right, over-long}
+use Rattle.playback.proofs.Files.{any-split, not-a-session, none-stopped, stays-right, over-long}
+use Rattle.playback.proofs.Plain.{printed}
+use Rattle.playback.proofs.Determined.{determined}
 use Rattle.playback.proofs.Example.{example, cut-example}
 use Rattle.playback.proofs.theorems.Statement.{statement}
 use Rattle.playback.proofs.theorems.Tie as tie
@@ -8,9 +10,8 @@ returns : tie.Need-returns
 returns c =
     record {
       any-split = any-split;
-      recounts = recounts;
-      closes = closes;
-      recorded = recorded;
+      printed = printed;
+      determined = determined;
       not-a-session = not-a-session;
       none-stopped = none-stopped;
       stays-right = stays-right;
