@@ -12,7 +12,8 @@ use lib.Seq.{sets, length-take-le}
 use lib.ListN.{length, take}
 use Rattle.controller.specs.State.{State, ResetOut, reset, resetState}
 use Rattle.controller.specs.Calls.{stateAfterAll}
-use Rattle.controller.specs.Demands.{StateLent, Resets}
+use Rattle.controller.specs.Plain.{StateLent}
+use Rattle.controller.specs.Demands.{Resets}
 use Rattle.controller.proofs.Demands.{state-lent}
 use Rattle.records.specs.Session.{Run, taken, fileRun, start}
 use Rattle.records.proofs.Runs.{taken-append}
