@@ -1,12 +1,15 @@
 // What no session file can say: gains that no packet can have stored, lists that are lent a number short, a setting out of range. On the front
 // end's entries on 16-bit tables; each step prints what it answered.
-
 use controller::GAINS_SIZE;
 use controller::MAP_SIZE;
 use controller::REPLY_ROOM;
 use settings::layout::BLOCK_SIZE;
-ghost use Prim.Native.Nat.{_≤_};
+ghost use Prim.Native.Nat.{_≤_, _<_};
+ghost use mathlib.Core.Path.{_≡_};
+ghost use lib.ListN.{length, take};
 
+// Three groups of steps, each a packet behind its length. The first reads what is lent, and stores a setting, four staged points and, applied, live ones. Those of the
+// second are lent one of the lists a number short. The last are a write, one that asks for a reply, a read, and an empty packet.
 fn main() {
     let mut block = [0u8; BLOCK_SIZE];
     let mut staged = [0u16; MAP_SIZE];
@@ -15,11 +18,23 @@ fn main() {
     let mut reply = [0u8; REPLY_ROOM];
     controller16::reset(&mut block, &mut staged, &mut live, &mut gains);
     lend_large(&mut gains);
-    run(&mut block, &mut staged, &mut live, &mut gains, &mut reply);
+    run(
+        b"\x07\x84\x2b\x01\x04\x00\x03\x00\x03\x04\x11\x01\x16\x14\x34\x12\x00\x00\x00\x00\x00\x01\x00\x02\x00\x03\x00\x04\x00\x05\x00\x06\x00\x07\x00\x03\x04\x36\x01\x03\x44\x11\x01\x03\x44\x11\x01\x03\x44\x11\x01\x03\x44\x11\x01\x03\x44\x11\x01\x03\x04\x11\x01\x03\x44\x11\x01\x02\x84\x11\x00",
+        &mut block,
+        &mut staged,
+        &mut live,
+        &mut gains,
+        &mut reply,
+    );
 }
 
-// Three groups of steps.
+// The first step that is lent a list a number short, and the first behind those.
+const FIRST_SHORT: usize = 4;
+
+const FIRST_SPOILT: usize = 9;
+
 fn run(
+    script: &[u8],
     block: &mut [u8],
     staged: &mut [u16],
     live: &mut [u16],
@@ -27,14 +42,32 @@ fn run(
     reply: &mut [u8],
 ) {
     let mut i = 0;
-    while i < 13 {
-        step(i, block, staged, live, gains, reply);
+    let mut at = 0;
+    while at < script.len() {
+        let next = behind(script, at);
+        step(i, &script[at + 1..next], block, staged, live, gains, reply);
+        at = next;
         i += 1;
     }
 }
 
+// Where the packet ends whose length stands at a place.
+fn behind(script: &[u8], at: usize) -> usize
+    requires { ⌜ at < length (now script) ⌝ }
+    ensures { λ r. ⌜ (at < r) × (r ≤ length (now (script .entry))) ⌝ }
+{
+    let end = at + 1 + wire::byte(script, at);
+    if end < script.len() {
+        end
+    } else {
+        script.len()
+    }
+}
+
+// A packet on the lists, or with one of them lent a number short; and what some places of the lists hold then.
 fn step(
     i: usize,
+    packet: &[u8],
     block: &mut [u8],
     staged: &mut [u16],
     live: &mut [u16],
@@ -42,200 +75,122 @@ fn step(
     reply: &mut [u8],
 ) {
     head(i);
-    if i < 4 {
-        fill(i, block, staged, live, gains, reply);
-        return;
-    }
-    if i < 9 {
-        shorten(i - 4, block, staged, live, gains, reply);
-        return;
-    }
-    spoil(block);
-    ask(i - 9, block, staged, live, gains, reply);
-}
-
-fn head(i: usize) {
-    if i == 0 {
-        io::write_all(1, b"gains lent above 8191\n");
-    }
-    if i == 4 {
-        io::write_all(1, b"lists that are a number short\n");
-    }
-    if i == 9 {
-        io::write_all(1, b"a setting out of range\n");
-    }
-}
-
-// Reads what is lent, and stores a setting, four staged points and, applied, live ones.
-fn fill(
-    i: usize,
-    block: &mut [u8],
-    staged: &mut [u16],
-    live: &mut [u16],
-    gains: &mut [u16],
-    reply: &mut [u8],
-) {
-    if i == 0 {
-        send(
-            b"\x84\x2b\x01\x04\x00\x03\x00",
-            block,
-            staged,
-            live,
-            gains,
-            reply,
-        );
-        return;
-    }
-    if i == 1 {
-        send(b"\x04\x11\x01", block, staged, live, gains, reply);
-        return;
-    }
-    if i == 2 {
-        send(
-            b"\x14\x34\x12\x00\x00\x00\x00\x00\x01\x00\x02\x00\x03\x00\x04\x00\x05\x00\x06\x00\x07\x00",
-            block,
-            staged,
-            live,
-            gains,
-            reply,
-        );
-        return;
-    }
-    send(b"\x04\x36\x01", block, staged, live, gains, reply);
-}
-
-// A reset and then a packet, with one of the lists lent a number short; and what some places of the lists hold then. The reply buffer is the last of
-// them, as it alone does not stop a reset.
-fn shorten(
-    i: usize,
-    block: &mut [u8],
-    staged: &mut [u16],
-    live: &mut [u16],
-    gains: &mut [u16],
-    reply: &mut [u8],
-) {
-    let b = BLOCK_SIZE - short(i, 0);
-    let s = MAP_SIZE - short(i, 1);
-    let l = MAP_SIZE - short(i, 2);
-    let g = GAINS_SIZE - short(i, 3);
-    let r = REPLY_ROOM - short(i, 4);
-    reset_part(block, staged, live, gains, b, s, l, g);
-    send_part(block, staged, live, gains, reply, b, s, l, g, r);
-    tell(block, staged, live, gains);
-}
-
-fn short(i: usize, list: usize) -> usize
-    ensures { λ r. ⌜ r ≤ 1 ⌝ }
-{
-    if i == list { 1 } else { 0 }
-}
-
-// A write, one that asks for a reply, a read, and an empty packet.
-fn ask(
-    i: usize,
-    block: &mut [u8],
-    staged: &mut [u16],
-    live: &mut [u16],
-    gains: &mut [u16],
-    reply: &mut [u8],
-) {
-    if i == 0 {
-        send(b"\x04\x11\x01", block, staged, live, gains, reply);
-        return;
-    }
-    if i == 1 {
-        send(b"\x44\x11\x01", block, staged, live, gains, reply);
-        return;
-    }
-    if i == 2 {
-        send(b"\x84\x11", block, staged, live, gains, reply);
-        return;
-    }
-    send(b"", block, staged, live, gains, reply);
-}
-
-// A packet on parts that are no longer than the lists.
-fn send_part(
-    block: &mut [u8],
-    staged: &mut [u16],
-    live: &mut [u16],
-    gains: &mut [u16],
-    reply: &mut [u8],
-    b: usize,
-    s: usize,
-    l: usize,
-    g: usize,
-    r: usize,
-) {
-    if block.len() < b {
-        return;
-    }
-    if staged.len() < s {
-        return;
-    }
-    if live.len() < l {
-        return;
-    }
-    if gains.len() < g {
-        return;
-    }
-    if reply.len() < r {
-        return;
-    }
-    send(
-        b"\x44\x11\x01",
+    let b = less(block, short(i, 0));
+    let s = fewer(staged, short(i, 1));
+    let l = fewer(live, short(i, 2));
+    let g = fewer(gains, short(i, 3));
+    let r = less(reply, short(i, 4));
+    prepare_and_send(
+        i,
+        packet,
         &mut block[..b],
         &mut staged[..s],
         &mut live[..l],
         &mut gains[..g],
         &mut reply[..r],
     );
+    tell(i, block, staged, live, gains);
 }
 
-// A reset on such parts.
-fn reset_part(
+fn head(i: usize) {
+    if i == 0 {
+        io::write_all(1, b"gains lent above 8191\n");
+    }
+    if i == FIRST_SHORT {
+        io::write_all(1, b"lists that are a number short\n");
+    }
+    if i == FIRST_SPOILT {
+        io::write_all(1, b"a setting out of range\n");
+    }
+}
+
+// Which of the lists is a number short. The reply buffer is the last of them, as it alone does not stop a reset.
+fn short(i: usize, list: usize) -> usize {
+    if i < FIRST_SHORT {
+        return 0;
+    }
+    if i - FIRST_SHORT == list { 1 } else { 0 }
+}
+
+fn is_short(i: usize) -> bool {
+    (FIRST_SHORT <= i) & (i < FIRST_SPOILT)
+}
+
+// How long a list is without its last n numbers.
+fn less(list: &[u8], n: usize) -> usize
+    ensures { λ r. ⌜ (r ≤ length (now (list .entry))) × (r ≡ length (take r (now (list .entry)))) ⌝ }
+{
+    if n < list.len() { list.len() - n } else { 0 }
+}
+
+fn fewer(list: &[u16], n: usize) -> usize
+    ensures { λ r. ⌜ (r ≤ length (now (list .entry))) × (r ≡ length (take r (now (list .entry)))) ⌝ }
+{
+    if n < list.len() { list.len() - n } else { 0 }
+}
+
+fn prepare_and_send(
+    i: usize,
+    packet: &[u8],
     block: &mut [u8],
     staged: &mut [u16],
     live: &mut [u16],
     gains: &mut [u16],
-    b: usize,
-    s: usize,
-    l: usize,
-    g: usize,
+    reply: &mut [u8],
 ) {
-    if block.len() < b {
+    prepare(i, block, staged, live, gains);
+    send(packet, block, staged, live, gains, reply);
+}
+
+// A reset, where a list is a number short; behind those steps a setting out of range.
+fn prepare(i: usize, block: &mut [u8], staged: &mut [u16], live: &mut [u16], gains: &mut [u16]) {
+    spoil(i, block);
+    if !is_short(i) {
         return;
     }
-    if staged.len() < s {
-        return;
-    }
-    if live.len() < l {
-        return;
-    }
-    if gains.len() < g {
-        return;
-    }
-    let status = controller16::reset(
-        &mut block[..b],
-        &mut staged[..s],
-        &mut live[..l],
-        &mut gains[..g],
-    );
-    io::write_all(1, b"  reset -> ");
-    io::print_decimal(1, status as u64);
+    let status = controller16::reset(block, staged, live, gains);
+    print_number(b"  reset -> ", status as u64);
     io::write_all(1, b"\n");
 }
 
-fn tell(block: &[u8], staged: &[u16], live: &[u16], gains: &[u16]) {
-    io::write_all(1, b"  left ");
-    io::print_decimal(1, wire::byte(block, 0) as u64);
+// One packet: its bytes, the status, and the reply if there is one.
+fn send(
+    packet: &[u8],
+    block: &mut [u8],
+    staged: &mut [u16],
+    live: &mut [u16],
+    gains: &mut [u16],
+    reply: &mut [u8],
+) {
     io::write_all(1, b" ");
-    io::print_decimal(1, seventh(staged));
-    io::write_all(1, b" ");
-    io::print_decimal(1, seventh(live));
-    io::write_all(1, b" ");
-    io::print_decimal(1, seventh(gains));
+    show::bytes(packet, packet.len());
+    let o = controller16::handle(packet, block, staged, live, gains, reply);
+    print_number(b" -> ", o.why.number as u64);
+    print_reply(reply, o.size);
+}
+
+fn print_reply(reply: &[u8], size: usize) {
+    if 0 < size {
+        io::write_all(1, b":");
+        show::bytes(reply, size);
+    }
     io::write_all(1, b"\n");
+}
+
+fn tell(i: usize, block: &[u8], staged: &[u16], live: &[u16], gains: &[u16]) {
+    if !is_short(i) {
+        return;
+    }
+    print_number(b"  left ", wire::byte(block, 0) as u64);
+    print_number(b" ", seventh(staged));
+    print_number(b" ", seventh(live));
+    print_number(b" ", seventh(gains));
+    io::write_all(1, b"\n");
+}
+
+fn print_number(text: &[u8], n: u64) {
+    io::write_all(1, text);
+    io::print_decimal(1, n);
 }
 
 fn seventh(table: &[u16]) -> u64 {
@@ -255,29 +210,11 @@ fn lend_large(table: &mut [u16]) {
 }
 
 // Display 5, which no packet can have stored: refusal 1, with no reply.
-fn spoil(block: &mut [u8]) {
+fn spoil(i: usize, block: &mut [u8]) {
+    if i < FIRST_SPOILT {
+        return;
+    }
     if 0 < block.len() {
         block[0] = 5;
     }
-}
-
-// One packet: its bytes, the status, and the reply if there is one.
-fn send(
-    packet: &[u8],
-    block: &mut [u8],
-    staged: &mut [u16],
-    live: &mut [u16],
-    gains: &mut [u16],
-    reply: &mut [u8],
-) {
-    io::write_all(1, b" ");
-    show::bytes(packet, packet.len());
-    io::write_all(1, b" -> ");
-    let o = controller16::handle(packet, block, staged, live, gains, reply);
-    io::print_decimal(1, o.why.number as u64);
-    if 0 < o.size {
-        io::write_all(1, b":");
-        show::bytes(reply, o.size);
-    }
-    io::write_all(1, b"\n");
 }

@@ -1,5 +1,5 @@
--- No lent list changes its length.
-use Prim.Native.Nat.{_-_}
+-- No lent list changes its length, and there are no more steps than bytes of the script.
+use Prim.Native.Nat.{_-_, _≤_}
 use mathlib.Core.Path.{_≡_}
 use lib.ListN.{length}
 use borrow.Author.Needs.{needs}
@@ -7,14 +7,29 @@ use Rattle.lent.proofs.run.Statement.{statement}
 use Rattle.lent.proofs.run.Tie as tie
 
 abbrev Inv-loop : tie.InvT-loop
-Inv-loop block₀ staged₀ live₀ gains₀ reply₀ i₀ block staged live gains reply i =
-    (length block ≡ length block₀) × (length staged ≡ length staged₀) × (length live ≡ length live₀) × (length gains ≡ length gains₀) × (length reply ≡ length reply₀)
+Inv-loop script block₀ staged₀ live₀ gains₀ reply₀ i₀ at₀ block staged live gains reply i at =
+    (i ≤ at) × (length block ≡ length block₀) × (length staged ≡ length staged₀) × (length live ≡ length live₀) × (length gains ≡ length gains₀) × (length reply ≡ length reply₀)
 
 abbrev μ-loop : tie.MeasureT-loop
-μ-loop block₀ staged₀ live₀ gains₀ reply₀ i₀ block staged live gains reply i = 13 - i
+μ-loop script block₀ staged₀ live₀ gains₀ reply₀ i₀ at₀ block staged live gains reply i at = length script - at
 
 loop-holds : tie.Need-loop-holds Inv-loop μ-loop
 loop-holds c = search needs
+
+behind-requires : tie.Need-behind-requires Inv-loop μ-loop
+behind-requires c κs = search needs
+
+add-step : tie.Need-add-step Inv-loop μ-loop
+add-step c = search needs
+
+sub-step : tie.Need-sub-step Inv-loop μ-loop
+sub-step c = search needs
+
+part-step-start : tie.Need-part-step-start Inv-loop μ-loop
+part-step-start c = search needs
+
+part-step-end : tie.Need-part-step-end Inv-loop μ-loop
+part-step-end c = search needs
 
 step-requires : tie.Need-step-requires Inv-loop μ-loop
 step-requires c κs = search needs
@@ -53,6 +68,11 @@ run-spec =
     Inv-loop
     μ-loop
     loop-holds
+    behind-requires
+    add-step
+    sub-step
+    part-step-start
+    part-step-end
     step-requires
     add-i
     loop-less
