@@ -13,7 +13,7 @@ use Rattle.reply.specs.Reply.{replyBytes}
 use Rattle.packet.specs.Frame.{headerOf, opcodeOf, dataOf}
 use Rattle.settings.specs.Layout.{blockSize}
 use Rattle.controller.specs.State.{State, state}
-use Rattle.controller.specs.Commands.{blockAfter, written}
+use Rattle.controller.specs.Commands.{written}
 use Rattle.controller.specs.Mark.{markedBlock}
 use Rattle.controller.specs.Step.{statusReply, out, step}
 use Rattle.controller.proofs.Demands.{Demand2}

@@ -38,9 +38,9 @@ use Rattle.controller.specs.Plain.{StateLent, LentRight, Placed}
 use Rattle.controller.specs.Effects.{blockWith, Leaves, Returns}
 use Rattle.controller.specs.Mark.{writtenMarked}
 use Rattle.controller.specs.Demands.{Accepted, Resets}
-use Rattle.controller.proofs.Effects.{leaves, returns, some-left, some-returned, written-data, read-data}
+use Rattle.controller.proofs.Effects.{leaves, returns}
 use Rattle.controller.proofs.Bounds.{placed-number}
-use Rattle.controller.proofs.Steps.{decision-number, step-stopped, step-refused, step-read, step-written}
+use Rattle.controller.proofs.Steps.{decision-number, step-stopped, step-refused}
 
 -- ---- Demand 1 by the definitions: which number is given, and that a refusal changes nothing (rules 3.2 and 4.1 to 4.3).
 

@@ -2,9 +2,9 @@
 -- every bit of the mark is said, where it is written; bytes of a number are its own.
 use Prim.Native.Nat.{ℕ, zero, suc, _+_, _*_, _^_, _≤_, _<_}
 use mathlib.Core.Path.{_≡_, refl, sym, ap, subst, _∙_}
-use mathlib.Core.Logic.{_⊎_, _↔_, inl, inr, ⊎-elim}
+use mathlib.Core.Logic.{_↔_}
 use mathlib.Core.Bool.{Bool, true, false, true≢false}
-use mathlib.Core.List.{List, [], _∷_, _++_}
+use mathlib.Core.List.{List}
 use native.Mathlib.Omega.{arith}
 use native.Mathlib.Decide.{ℕ-discrete}
 use lib.ListN.{length, take, drop, getD, length-take, length-drop}
@@ -14,7 +14,7 @@ use Rattle.wire.specs.Plain.{Bytes}
 use Rattle.wire.proofs.Plain.{least-one}
 use Rattle.opcode.specs.Options.{isRead}
 use Rattle.opcode.specs.Allowed.{two}
-use Rattle.packet.specs.Frame.{headerOf, opcodeOf, optionsOf, dataOf}
+use Rattle.packet.specs.Frame.{headerOf, opcodeOf, dataOf}
 use Rattle.packet.proofs.Determined.{same-fault}
 use Rattle.rows.specs.Bits.{bitAt}
 use Rattle.rows.specs.Right.{Moved}
@@ -22,10 +22,9 @@ use Rattle.rows.proofs.Plain.{same-bits}
 use Rattle.controller.specs.State.{State, state, lengthsRight, ResetOut, reset, resetState}
 use Rattle.controller.specs.Commands.{written}
 use Rattle.controller.specs.Step.{answers, Out, step}
-use Rattle.controller.specs.Writes.{Writes, Applies}
-use Rattle.controller.specs.Effects.{blockWith, Leaves}
+use Rattle.controller.specs.Effects.{blockWith}
 use Rattle.controller.specs.Rows.{markOf, columnsOf, rowsOf, RowRight, TouchedBy, RowsPlain}
-use Rattle.controller.specs.Plain.{StateLent, Asks, ReplyData, ReplyWritten, LeftBy, StepPlain, ResetPlain, Pinned}
+use Rattle.controller.specs.Plain.{StateLent, Asks, ReplyData, ReplyWritten, StepPlain, ResetPlain, Pinned}
 use Rattle.controller.proofs.Effects.{leaves, returns}
 use Rattle.controller.proofs.Demands.{state-lent, resets}
 use Rattle.controller.proofs.Accepting.{written-long}

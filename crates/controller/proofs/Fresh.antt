@@ -1,23 +1,21 @@
 -- The rows that the code works out give the mark after the write; and what is told of a mark.
 use Prim.Native.Nat.{ℕ, _+_, _-_, _*_, _/_, _%_, _^_, _≤_, _<_}
 use mathlib.Core.Path.{_≡_, refl, sym, ap, _∙_}
-use mathlib.Core.Logic.{_↔_}
-use mathlib.Core.Bool.{Bool, true, false, _&&_, true≢false}
+use mathlib.Core.Bool.{true, false, _&&_}
 use mathlib.Core.List.{List, [], _∷_, _++_}
 use native.Mathlib.Decide.{ℕ-discrete, decLt}
 use native.Mathlib.Nat.{div-lt-iff-lt-mul, mul-le-mul-left, zero-div}
 use native.Mathlib.Omega.{arith}
-use borrow.Author.Tests.{eq-eqb, ne-eqb, lt-ltb, le-ltb, ltb-false}
+use borrow.Author.Tests.{ne-eqb, lt-ltb, le-ltb, ltb-false}
 use lib.ListN.{length, getD}
 use lib.Seq.{sets, paste}
-use lib.Dec.{eqb, ltb}
-use lib.Count.{ones, trailingZeros}
+use lib.Dec.{eqb}
 use Rattle.wire.specs.Numbers.{byteAt, wordBytes, longAt}
 use Rattle.wire.specs.Tables.{longBytes}
 use Rattle.wire.proofs.Laws.{sets-append}
 use Rattle.wire.proofs.Copies.{sets-paste}
 use Rattle.rows.specs.Bits.{bitsOf, ofBits, countTrue, firstTrue}
-use Rattle.rows.specs.Rows.{rowDiffers, rowMoved, eachFrom, rightMark, refreshed}
+use Rattle.rows.specs.Rows.{rowDiffers, rowMoved, rightMark, refreshed}
 use Rattle.rows.proofs.Bits.{length-bits, bit-at, number-back, count-ones, first-set, count-few, first-few}
 use Rattle.rows.proofs.Rows.{length-refreshed, refreshed-in, refreshed-behind, refreshed-same, each-right}
 use Rattle.rows.proofs.Right.{rows-counted}

@@ -2,25 +2,25 @@
 -- the mark, the shape and the maps. So what is right stays right.
 use Prim.Native.Nat.{ℕ, _+_, _-_, _*_, _/_, _%_, _≤_, _<_, min}
 use mathlib.Core.Path.{_≡_, refl, sym, ap, ap₂, _∙_}
-use mathlib.Core.Logic.{_↔_, ⊎-elim}
-use mathlib.Core.Bool.{Bool, true, false, not, _||_, _&&_, and-false}
+use mathlib.Core.Logic.{⊎-elim}
+use mathlib.Core.Bool.{Bool, false, _&&_, and-false}
 use mathlib.Core.List.{List, [], _∷_}
 use native.Mathlib.Decide.{ℕ-discrete, decLe, decLt}
 use native.Mathlib.Nat.{mod-add-div, mul-le-mul-left}
 use native.Mathlib.Omega.{arith}
-use borrow.Author.Tests.{eq-eqb, ne-eqb, eqb-true, lt-ltb, le-ltb, ltb-false}
-use lib.ListN.{length, take, drop, getD, replicate, length-drop, length-replicate, getD-replicate}
+use borrow.Author.Tests.{eq-eqb, ne-eqb, eqb-true, le-ltb, ltb-false}
+use lib.ListN.{length, drop, getD, replicate, length-drop, length-replicate, getD-replicate}
 use lib.Seq.{paste, length-paste, getD-drop}
-use lib.Dec.{eqb, ltb}
+use lib.Dec.{eqb}
 use Rattle.wire.specs.Numbers.{byteAt, longAt}
 use Rattle.wire.specs.Tables.{longBytes}
-use Rattle.wire.proofs.Copies.{Same, front, same-part, paste-there, paste-apart, before-paste}
-use Rattle.rows.specs.Bits.{bitsOf, ofBits, bitAt}
-use Rattle.rows.specs.Rows.{markRows, differ, rowMoved, rightMark, refreshed, eachFrom}
+use Rattle.wire.proofs.Copies.{same-part, paste-there, paste-apart, before-paste}
+use Rattle.rows.specs.Bits.{ofBits, bitAt}
+use Rattle.rows.specs.Rows.{markRows, differ, rowMoved, refreshed, eachFrom}
 use Rattle.rows.specs.Right.{Touches}
 use Rattle.rows.proofs.Bits.{bits-back, bit-at, length-bits}
 use Rattle.rows.proofs.Rows.{rowOf, length-refreshed, length-each, row-room, each-at}
-use Rattle.rows.proofs.Right.{Holds, row-right, right-row, right-for}
+use Rattle.rows.proofs.Right.{Holds, row-right, right-row}
 use Rattle.rows.proofs.Touched.{touched-first, touched-last, between, apart, touched-bit, untouched-bit}
 use Rattle.settings.specs.Layout.{blockSize, stagedShape, shapeSize, enable, liveShape, settingsEnd, markPlace, markSize, columnsAt, rowsAt}
 use Rattle.opcode.specs.Options.{isRead, optionsIn}

@@ -6,29 +6,25 @@ use mathlib.Core.Bool.{Bool, true, false, and-false}
 use mathlib.Core.List.{List, [], _∷_}
 use native.Mathlib.Omega.{arith}
 use native.Mathlib.Decide.{ℕ-discrete}
-use borrow.Author.Tests.{eq-eqb, ne-eqb, eqb-true}
-use lib.ListN.{length, drop, getD}
-use lib.Dec.{eqb}
+use borrow.Author.Tests.{eq-eqb, ne-eqb}
+use lib.ListN.{getD}
 use Rattle.wire.specs.First.{first}
 use Rattle.wire.specs.Buffers.{over}
-use Rattle.wire.specs.Plain.{Least}
 use Rattle.wire.proofs.Plain.{Each, first-applies}
 use Rattle.wire.proofs.Tests.{first-right, first-silent}
-use Rattle.opcode.specs.Options.{hasSum, isRead}
+use Rattle.opcode.specs.Options.{isRead}
 use Rattle.opcode.specs.Judgement.{judgement}
 use Rattle.opcode.specs.Faults.{Located}
-use Rattle.opcode.specs.Plain.{CommandRefuses, not-carried, lacks-length, wrong-size, out-of-range, merges}
+use Rattle.opcode.specs.Plain.{not-carried, lacks-length, wrong-size, out-of-range, merges}
 use Rattle.packet.specs.Frame.{headerOf, opcodeOf, optionsOf, dataOf}
-use Rattle.packet.specs.Reading.{refusals, reading, faultOf}
+use Rattle.packet.specs.Reading.{refusals, reading}
 use Rattle.packet.specs.Plain.{Refuses, too-short, too-long, other-length, other-sum, elsewhere, command, ReadPlain}
 use Rattle.packet.proofs.Frames.{reading-number}
 use Rattle.packet.proofs.Exactly.{exactly}
 use Rattle.packet.proofs.Promises.{read-promised}
-use Rattle.reply.specs.Reply.{replyBytes}
 use Rattle.controller.specs.State.{State, stopped}
-use Rattle.controller.specs.Commands.{runsPast, dataBack}
-use Rattle.controller.specs.Step.{reads, stepRefusals, numberOf, answers, replyData, replyTo, stateAfter, Out, step}
-use Rattle.controller.specs.Effects.{Returns}
+use Rattle.controller.specs.Commands.{runsPast}
+use Rattle.controller.specs.Step.{reads, stepRefusals, numberOf, answers, replyData, replyTo, Out, step}
 use Rattle.controller.specs.Plain.{StateLent, LentRight, Placed, StepRefuses, lent-wrong, packet, past-table, Asks, ReplyData, ReplyWritten, LeftBy, StepPlain}
 use Rattle.controller.proofs.Effects.{returns, some-returned, read-data}
 use Rattle.controller.proofs.Demands.{lent, runs, running-right, right-running, refusals-numbered, demand1, accepted-exactly}

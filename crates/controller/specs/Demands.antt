@@ -1,6 +1,6 @@
 -- What is demanded of one packet on a state, of whatever an entry answers and leaves (`Out`). `Handled` stands in the contracts of the entries: the equation; the plain
 -- promise, which alone determines the outcome; and what follows from it for replies, ranges, the live side, bytes without a meaning and planning.
-use Prim.Native.Nat.{ℕ, _+_, _≤_, _<_}
+use Prim.Native.Nat.{ℕ, _+_, _≤_}
 use mathlib.Core.Path.{_≡_}
 use mathlib.Core.Logic.{_↔_}
 use mathlib.Core.Bool.{true}

@@ -6,7 +6,6 @@ use mathlib.Core.List.{List}
 use lib.ListN.{length}
 use Rattle.wire.specs.Tables.{words}
 use Rattle.wire.specs.Plain.{Bytes}
-use Rattle.controller.specs.State.{ResetOut}
 use Rattle.controller.specs.Plain.{StepPlain, ResetPlain}
 use Rattle.controller8.specs.Bytes.{Lent, lent, stateIn, LentOut, lentOut, numbersOut, LentReset, lentReset}
 

@@ -1,13 +1,13 @@
 -- The plan's packets sent to the front end: each is accepted and writes its points, so the staged map goes the way of the judge's map, and
 -- what stands behind it stays.
-use Prim.Native.Nat.{ℕ, _+_, _-_, _*_, _/_, _≤_, _<_}
+use Prim.Native.Nat.{ℕ, _+_, _-_, _*_, _≤_, _<_}
 use mathlib.Core.Path.{_≡_, refl, sym, ap, subst, _∙_}
 use mathlib.Core.Bool.{Bool, true, false, and-false}
 use mathlib.Core.List.{List, [], _∷_, _++_, map}
 use native.Mathlib.Omega.{arith}
 use lib.ListN.{length, take, drop, getD, take-append-drop}
 use lib.Seq.{length-paste, take-at, drop-at}
-use Rattle.wire.specs.Numbers.{wordAt, wordBytes}
+use Rattle.wire.specs.Numbers.{wordBytes}
 use Rattle.wire.specs.Buffers.{over}
 use Rattle.wire.specs.Tables.{bytes}
 use Rattle.wire.proofs.Copies.{paste-front}
@@ -28,7 +28,7 @@ use Rattle.controller.proofs.Marks.{AllButMark, mark-alone, front-byte, front-p
 use Rattle.controller.proofs.Moves.{touched-few}
 use Rattle.controller.proofs.Marking.{rows-marked}
 use Rattle.controller.proofs.InRange.{stays-lent}
-use Rattle.upload.specs.Plan.{Part, planOf, packetFor, packetsOf}
+use Rattle.upload.specs.Plan.{Part, packetFor, packetsOf}
 use Rattle.upload.specs.Judge.{mapsAfter, AllAccepted, MapOf}
 use Rattle.upload.proofs.Reading.{sound}
 use Rattle.upload.specs.Parts.{InOrder}

@@ -1,11 +1,11 @@
 -- What names mean, by unfolding them; and when a command's refusals apply, from which number was given.
-use Prim.Native.Nat.{ℕ, _≤_, _<_}
+use Prim.Native.Nat.{ℕ, _<_}
 use mathlib.Core.Path.{_≡_, refl}
 use mathlib.Core.Logic.{_⊎_, ⊎-elim}
 use mathlib.Core.List.{List}
 use native.Mathlib.Omega.{arith}
 use Rattle.opcode.specs.Numbers.{CommandNumber}
-use Rattle.opcode.specs.Faults.{FirstFault, Located}
+use Rattle.opcode.specs.Faults.{Located}
 use Rattle.opcode.specs.Plain.{Pinned, CommandRefuses, not-carried, lacks-length, wrong-size, out-of-range, merges}
 
 pub pinned : Pinned

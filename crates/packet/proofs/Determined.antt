@@ -1,15 +1,13 @@
 -- The plain promises of reading, of making and of what a packet announces each hold of one outcome at most; and what names mean.
-use Prim.Native.Nat.{ℕ, zero, suc, _+_, _*_, _/_, _%_, _≤_, _<_}
+use Prim.Native.Nat.{ℕ, zero, suc, _+_, _*_, _/_, _%_, _<_}
 use mathlib.Core.Path.{_≡_, refl, sym, ap, _∙_}
-use mathlib.Core.Logic.{_↔_}
-use mathlib.Core.Bool.{Bool, true, false, cond, _&&_}
+use mathlib.Core.Bool.{Bool, true, false, _&&_}
 use mathlib.Core.List.{List, [], _∷_, _++_, append-assoc}
 use native.Mathlib.Omega.{arith}
 use native.Mathlib.Decide.{ℕ-discrete}
 use borrow.Author.Tests.{eqb-true, eq-eqb, leb-true, le-leb}
 use lib.ListN.{length, take, replicate}
 use lib.Dec.{eqb, leb}
-use Rattle.wire.specs.Numbers.{wordAt}
 use Rattle.wire.specs.Checksum.{checksum, sealed}
 use Rattle.wire.proofs.Plain.{least-one}
 use Rattle.wire.proofs.Tests.{and-left, and-right}

@@ -1,32 +1,29 @@
 -- What reading and making promise plainly, from their equations; and what names mean, by unfolding them.
-use Prim.Native.Nat.{ℕ, _+_, _-_, _*_, _/_, _%_, _≤_, _<_}
+use Prim.Native.Nat.{ℕ, _+_, _-_, _≤_, _<_}
 use mathlib.Core.Path.{_≡_, refl, sym, ap, _∙_}
-use mathlib.Core.Logic.{_⊎_, _↔_}
-use mathlib.Core.Bool.{Bool, true, false, cond, not, _&&_, true≢false}
-use mathlib.Core.List.{List, [], _∷_, _++_, append-assoc}
+use mathlib.Core.Logic.{_⊎_}
+use mathlib.Core.Bool.{Bool, true, false, not, _&&_, true≢false}
+use mathlib.Core.List.{List, []}
 use native.Mathlib.Omega.{arith}
-use borrow.Author.Tests.{ltb-true, ltb-false, leb-true, eqb-true, eqb-false, not-true, not-false, lt-ltb, le-ltb, le-leb, eq-eqb, ne-eqb}
-use lib.ListN.{length, take, drop, getD, replicate}
-use lib.Dec.{eqb, leb, ltb}
+use borrow.Author.Tests.{ltb-true, ltb-false, eqb-true, eqb-false, not-true, not-false, eq-eqb}
+use lib.ListN.{length}
+use lib.Dec.{eqb}
 use Rattle.wire.specs.First.{first}
 use Rattle.wire.specs.Buffers.{over}
-use Rattle.wire.specs.Checksum.{checksum}
-use Rattle.wire.specs.Numbers.{wordBytes}
-use Rattle.wire.specs.Plain.{Least, Bytes}
+use Rattle.wire.specs.Plain.{Least}
 use Rattle.wire.proofs.Plain.{Each, first-applies}
-use Rattle.wire.proofs.Tests.{Row, Rows, first-rows, and-left, and-right, option-true}
-use Rattle.opcode.specs.Options.{hasLength, hasSum, isRead, optionsIn}
+use Rattle.wire.proofs.Tests.{Rows, first-rows, option-true}
+use Rattle.opcode.specs.Options.{optionsIn}
 use Rattle.opcode.specs.Judgement.{judgement}
-use Rattle.opcode.specs.Faults.{FirstFault, Located}
+use Rattle.opcode.specs.Faults.{Located}
 use Rattle.opcode.specs.Numbers.{CommandNumber}
 use Rattle.opcode.specs.Plain.{CommandRefuses, not-carried, lacks-length, wrong-size, out-of-range, merges}
 use Rattle.opcode.proofs.Plain.{command-passed}
-use Rattle.packet.specs.Frame.{headerOf, opcodeOf, optionsOf, lengthPlace, dataSize, dataOf, place, fields, announced}
+use Rattle.packet.specs.Frame.{headerOf, opcodeOf, optionsOf, dataOf, place, fields, announced}
 use Rattle.packet.specs.Reading.{Answer, frameRefusals, refusals, answered, reading}
-use Rattle.packet.specs.Making.{Made, present, packetOf, makeRefusals, madeBy, made}
-use Rattle.packet.specs.Points.{acceptedAt, mapAfter}
+use Rattle.packet.specs.Making.{Made, packetOf, makeRefusals, madeBy, made}
 use Rattle.packet.specs.Plain.{Refuses, too-short, too-long, other-length, other-sum, elsewhere, command, ReadPlain}
-use Rattle.packet.specs.Plain.{MakeRefuses, no-room, MakePlain, AnnouncedPlain, WritesAt, Pinned, unsealed}
+use Rattle.packet.specs.Plain.{MakeRefuses, no-room, MakePlain, AnnouncedPlain}
 use Rattle.packet.proofs.Frames.{reading-number, accepted}
 use Rattle.packet.proofs.Makes.{makeFront, made-by}
 use Rattle.packet.proofs.MadeReads.{made-number}

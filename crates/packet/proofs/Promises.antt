@@ -1,30 +1,22 @@
 -- What reading and making promise, from the equations that their code meets.
 use Prim.Native.Nat.{ℕ, _<_}
 use mathlib.Core.Path.{_≡_, refl, sym, ap, _∙_}
-use mathlib.Core.Logic.{_⊎_}
-use mathlib.Core.Bool.{Bool, true, false}
 use mathlib.Core.List.{List, []}
 use native.Mathlib.Omega.{arith}
-use lib.ListN.{length, drop, getD}
-use lib.Seq.{drop-at}
-use lib.Dec.{eqb}
-use Rattle.wire.specs.First.{first}
-use Rattle.wire.specs.Buffers.{over}
-use Rattle.wire.proofs.Tests.{first-past}
+use lib.ListN.{length, getD}
 use Rattle.opcode.specs.Options.{optionsIn}
 use Rattle.opcode.specs.Judgement.{judgement, faultPlace}
 use Rattle.opcode.specs.Faults.{Located}
 use Rattle.opcode.specs.Numbers.{CommandNumber}
 use Rattle.opcode.proofs.Faults.{located}
 use Rattle.opcode.proofs.Numbers.{command-number}
-use Rattle.opcode.proofs.Rows.{beyond}
 use Rattle.packet.specs.Frame.{opcodeOf, optionsOf, dataOf}
-use Rattle.packet.specs.Reading.{frameRefusals, refusals, faultOf, answered, Answer, reading}
+use Rattle.packet.specs.Reading.{frameRefusals, faultOf, Answer, reading}
 use Rattle.packet.proofs.Frames.{reading-number, reading-fault}
-use Rattle.packet.specs.Making.{packetOf, Made, makeRefusals, madeBy, made}
+use Rattle.packet.specs.Making.{Made, made}
 use Rattle.packet.specs.Promises.{PacketRead, PacketMade}
 use Rattle.packet.proofs.Exactly.{bytes-of-data, exactly}
-use Rattle.packet.proofs.Makes.{makeFront, made-by, made-small, made-large, made-judged, made-status}
+use Rattle.packet.proofs.Makes.{makeFront}
 use Rattle.packet.proofs.MadeReads.{made-number, made-place, reads-as-made, refuses-as-read}
 use Rattle.packet.proofs.MadeAgain.{made-again}
 use Rattle.packet.proofs.Plain.{read-plain, make-plain}

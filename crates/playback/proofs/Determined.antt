@@ -1,15 +1,12 @@
 -- Rules 9.2 to 9.4: the plain promise leaves one text and one end state for a file.
-use Prim.Native.Nat.{ℕ, _+_, _<_}
+use Prim.Native.Nat.{ℕ, _+_}
 use mathlib.Core.Path.{_≡_, refl, sym, ap, subst, _∙_}
 use mathlib.Core.List.{List, [], _∷_, _++_}
 use native.Mathlib.Omega.{arith}
-use lib.ListN.{length, take, drop, getD}
+use lib.ListN.{length}
 use lib.Seq.{ext-getD}
-use Rattle.text.specs.Plain.{Decimal}
 use Rattle.text.proofs.Determined.{decimal-determined, hex-determined}
 use Rattle.controller.specs.State.{State, resetState}
-use Rattle.controller.specs.Step.{step}
-use Rattle.records.specs.Plain.{Marked, Splits}
 use Rattle.records.proofs.File.{file-read}
 use Rattle.playback.specs.Plain.{Fresh, Says, Recounts, Closes, Printed}
 

@@ -2,14 +2,12 @@
 use Prim.Native.Nat.{ℕ, zero, suc, _+_, _-_, _≤_, _<_}
 use mathlib.Core.Path.{_≡_, refl, sym, ap, subst, _∙_}
 use mathlib.Core.Logic.{_↔_, inl, inr}
-use mathlib.Core.Bool.{Bool, true, false, cond}
 use mathlib.Core.List.{List, [], _∷_, _++_, append-assoc}
 use native.Mathlib.Decide.{ℕ-discrete, decLt}
 use native.Mathlib.Omega.{arith}
-use borrow.Author.Tests.{eqb-true, eqb-false, ne-eqb, le-leb, lt-ltb}
+use borrow.Author.Tests.{ne-eqb, le-leb, lt-ltb}
 use lib.ListN.{length, take, drop, getD, length-append, length-replicate, List·getD-append}
 use lib.Seq.{length-sets, sets-eq, take-append-seam}
-use lib.Dec.{eqb}
 use Rattle.wire.specs.Plain.{Bytes}
 use Rattle.wire.specs.Buffers.{over}
 use Rattle.wire.proofs.Laws.{take-over}
@@ -29,7 +27,7 @@ use Rattle.records.specs.Plain.{Marked, Splits, ends, next}
 use Rattle.records.proofs.Runs.{taken-append}
 use Rattle.records.proofs.File.{file-read}
 use Rattle.playback.specs.declared.Progress.{Progress}
-use Rattle.playback.specs.Replay.{replyBuffer, line, lines, stateAfterRecords, cutWord, endLine, notASession, closing, textOf, replayText, endState, Formed}
+use Rattle.playback.specs.Replay.{replyBuffer, line, lines, stateAfterRecords, notASession, closing, textOf, replayText, endState, Formed}
 use Rattle.playback.specs.Windows.{progress, Stands, Full, WindowReplayed, closingText}
 use Rattle.playback.specs.Theorems.{Called, WholeText, NoneStopped, OverLong}
 use Rattle.playback.proofs.Lines.{length-buffer, number-long, front-line, formed-append}

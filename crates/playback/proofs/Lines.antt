@@ -1,27 +1,23 @@
 -- Lines: one record more; any reply buffer gives them; and so does the front of an over-long record.
 use Prim.Native.Nat.{ℕ, _+_, _≤_, _<_}
 use mathlib.Core.Path.{_≡_, refl, sym, ap, _∙_}
-use mathlib.Core.Bool.{Bool, true, false, cond, not, _&&_, _||_}
+use mathlib.Core.Bool.{Bool, true, false, cond}
 use mathlib.Core.List.{List, [], _∷_, _++_, append-assoc, append-nil}
 use native.Mathlib.Decide.{decLt}
-use native.Mathlib.Nat.{add-zero, zero-add}
+use native.Mathlib.Nat.{add-zero}
 use native.Mathlib.Omega.{arith}
 use borrow.Author.Tests.{lt-ltb, le-ltb, le-leb}
 use lib.ListN.{length, take, length-append, length-replicate}
 use lib.Seq.{take-all, length-take-le, getD-take}
-use lib.Dec.{eqb, ltb, leb}
-use Rattle.wire.specs.First.{first}
-use Rattle.wire.specs.Buffers.{over}
 use Rattle.wire.proofs.Laws.{take-over, sets-append}
-use Rattle.opcode.specs.Options.{hasSum, asksReply, isRead}
 use Rattle.opcode.specs.Judgement.{judgement}
 use Rattle.packet.specs.Frame.{headerOf}
-use Rattle.packet.specs.Reading.{tooShort, tooLong}
+use Rattle.packet.specs.Reading.{tooShort}
 use Rattle.text.specs.Text.{decimal, hex, Puts}
 use Rattle.text.specs.Plain.{Decimal, Hex}
 use Rattle.controller.specs.State.{State, stopped}
-use Rattle.controller.specs.Step.{numberOf, answers, replyTo, stateAfter, step}
-use Rattle.controller.specs.Calls.{callsOf, stateAfterAll}
+use Rattle.controller.specs.Step.{numberOf, replyTo, stateAfter, step}
+use Rattle.controller.specs.Calls.{stateAfterAll}
 use Rattle.playback.specs.Replay.{replyBuffer, line, lineOf, lines, stateAfterRecords, Formed}
 
 -- ---- One record more.

@@ -6,7 +6,7 @@ use mathlib.Core.List.{List, [], _∷_, _++_}
 use native.Mathlib.Decide.{ℕ-discrete, decLt}
 use native.Mathlib.Omega.{arith}
 use borrow.Author.Tests.{eqb-true, eqb-false}
-use lib.ListN.{length, take, drop, getD, replicate}
+use lib.ListN.{length, take, getD, replicate}
 use lib.Dec.{eqb}
 use Rattle.text.specs.Text.{decimal, hex}
 use Rattle.text.specs.Plain.{Decimal}
@@ -15,7 +15,7 @@ use Rattle.controller.specs.State.{State, resetState}
 use Rattle.controller.specs.Step.{step}
 use Rattle.controller.specs.Calls.{stateAfterAll}
 use Rattle.records.specs.Session.{Run, fileRun}
-use Rattle.records.specs.Plain.{Marked, Splits}
+use Rattle.records.specs.Plain.{Marked}
 use Rattle.records.proofs.File.{file-read}
 use Rattle.playback.specs.Replay.{replyBuffer, line, lines, stateAfterRecords, cutWord, endLine, closing, replayText, endState}
 use Rattle.playback.specs.Theorems.{Countable}

@@ -7,7 +7,7 @@ use mathlib.Core.List.{List, [], _∷_, _++_, append-assoc, append-nil}
 use native.Mathlib.Omega.{arith}
 use borrow.Author.Tests.{eq-eqb, ne-eqb, leb-true, leb-false, le-leb, ltb-true, ltb-false}
 use lib.ListN.{length, take, drop, length-append}
-use lib.Seq.{sets, take-add, drop-drop}
+use lib.Seq.{take-add, drop-drop}
 use lib.Dec.{leb, ltb}
 use Rattle.wire.proofs.Tests.{and-left, and-right}
 use Rattle.wire.specs.First.{first}
@@ -24,7 +24,7 @@ use Rattle.records.specs.Windows.{mostRecord, part, found, Follows, Stepped, «
 use Rattle.records.proofs.Runs.{taken-append}
 use Rattle.playback.specs.declared.Progress.{Progress}
 use Rattle.playback.specs.Replay.{replyBuffer, line, lineOf, lines, stateAfterRecords, Formed}
-use Rattle.playback.specs.Windows.{lineRoom, mostRecords, progress, begun, Stands, Followed, Replayed, Full, hasRoom, Roomy, roomsRight}
+use Rattle.playback.specs.Windows.{lineRoom, mostRecords, progress, begun, Stands, Replayed, Full, hasRoom, Roomy, roomsRight}
 use Rattle.playback.specs.Windows.{WindowReplayed, Carries, Answered, Turned}
 use Rattle.playback.proofs.Lines.{state-snoc, lines-snoc, front-line, front-state, line-formed, formed-append, puts-behind}
 

@@ -1,23 +1,21 @@
 -- What is kept of the record under way, and the steps of the code: each takes the run on by the bytes that it takes.
-use Prim.Native.Nat.{ℕ, zero, suc, _+_, _-_, _≤_, _<_, min}
+use Prim.Native.Nat.{ℕ, suc, _+_, _-_, _≤_, _<_, min}
 use mathlib.Core.Path.{_≡_, refl, sym, ap, subst, _∙_}
 use mathlib.Core.Bool.{Bool, true, false, cond, _||_}
 use mathlib.Core.List.{List, [], _∷_, _++_}
 use native.Mathlib.Decide.{decLt}
 use native.Mathlib.Omega.{arith}
-use borrow.Author.Tests.{ltb-true, ltb-false, leb-true, leb-false, lt-ltb, le-ltb, lt-leb}
+use borrow.Author.Tests.{ltb-true, ltb-false, lt-ltb, le-ltb, lt-leb}
 use lib.ListN.{length, take, drop, getD, length-append, length-take, length-drop, List·getD-append}
-use lib.Seq.{length-take-le, take-all, take-take, take-nil, take-append-add, take-append-le, take-paste, length-paste, getD-take, getD-drop}
-use lib.Seq.{drop-drop, paste}
-use lib.Dec.{ltb, leb, eqb}
+use lib.Seq.{length-take-le, take-all, take-take, take-nil, take-append-add, take-append-le, take-paste, length-paste, getD-take}
+use lib.Seq.{paste}
+use lib.Dec.{ltb}
 use Rattle.wire.specs.Numbers.{byteAt, wordAt}
-use Rattle.wire.proofs.Tests.{or-left, or-right}
-use Rattle.records.specs.declared.Taken.{Taken}
-use Rattle.records.specs.Session.{Run, run, recorded, markedBy, grown, taken}
+use Rattle.records.specs.Session.{Run, run, recorded, taken}
 use Rattle.records.specs.Plain.{Cut}
-use Rattle.records.specs.Windows.{keptSize, mostRecord, Stands, Within, found, part, Went, Follows}
-use Rattle.records.specs.Windows.{nothing, wholeRecord, lacking, taking, keptAfter, afterTaking}
-use Rattle.records.proofs.Runs.{reaches, recorded-cut, recorded-whole, full, grown-mark, taken-spoiled}
+use Rattle.records.specs.Windows.{Stands, part, Went}
+use Rattle.records.specs.Windows.{nothing, lacking, taking, keptAfter, afterTaking}
+use Rattle.records.proofs.Runs.{reaches, recorded-cut, recorded-whole, full}
 
 -- ---- Fronts of lists.
 

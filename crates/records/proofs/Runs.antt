@@ -1,17 +1,16 @@
 -- Runs over bytes: windows of any split give one run; bytes that make a record whole, or not yet.
-use Prim.Native.Nat.{ℕ, zero, suc, _+_, _≤_, _<_}
-use mathlib.Core.Path.{_≡_, refl, sym, ap, _∙_}
+use Prim.Native.Nat.{ℕ, suc, _+_, _≤_, _<_}
+use mathlib.Core.Path.{_≡_, refl, ap, _∙_}
 use mathlib.Core.Bool.{Bool, true, false, _&&_}
-use mathlib.Core.List.{List, [], _∷_, _++_, append-nil}
+use mathlib.Core.List.{List, [], _∷_, _++_}
 use native.Mathlib.Decide.{decLt}
 use native.Mathlib.Omega.{arith}
-use borrow.Author.Tests.{leb-true, leb-false, eqb-true, eqb-false, ne-eqb, eq-eqb, le-leb, lt-ltb, le-ltb}
-use lib.ListN.{length, take, drop, getD, length-append}
+use borrow.Author.Tests.{leb-true, ne-eqb, eq-eqb, le-leb, lt-ltb, le-ltb}
+use lib.ListN.{length, take, drop, length-append}
 use lib.Seq.{append-snoc, length-take-le, getD-take, take-append-add}
 use lib.Dec.{eqb, leb}
 use Rattle.wire.specs.Numbers.{wordAt}
-use Rattle.wire.proofs.Tests.{and-left, and-right}
-use Rattle.records.specs.Session.{Run, run, mark, spoiled, isWhole, recorded, markedBy, grown, taken}
+use Rattle.records.specs.Session.{Run, run, isWhole, recorded, markedBy, grown, taken}
 use Rattle.records.specs.Plain.{Cut}
 
 -- Rule 9.6: bytes behind others, taken as they come.

@@ -1,19 +1,18 @@
 -- Each step of the code takes the run on by the bytes that it takes, and stays in the window.
-use Prim.Native.Nat.{ℕ, zero, suc, _+_, _-_, _≤_, _<_, min}
+use Prim.Native.Nat.{ℕ, _+_, _-_, _≤_, _<_, min}
 use mathlib.Core.Path.{_≡_, refl, sym, ap, subst, _∙_}
 use mathlib.Core.Bool.{Bool, true, false, cond, _||_}
 use mathlib.Core.List.{List, [], _∷_, _++_}
 use native.Mathlib.Omega.{arith}
-use borrow.Author.Tests.{ltb-true, ltb-false, lt-ltb, le-ltb, leb-true, eqb-true}
-use lib.ListN.{length, take, drop, getD, length-drop, length-take}
+use borrow.Author.Tests.{ltb-false, lt-ltb, le-ltb, leb-true, eqb-true}
+use lib.ListN.{length, take, drop, getD, length-drop}
 use lib.Seq.{length-take-le, drop-cons, getD-take, getD-drop, drop-drop}
 use lib.Dec.{ltb, eqb}
 use Rattle.wire.specs.Numbers.{wordAt}
 use Rattle.wire.proofs.Tests.{and-left, and-right}
 use Rattle.records.specs.declared.Taken.{Taken}
-use Rattle.records.specs.Session.{Run, run, markedBy, grown, taken}
-use Rattle.records.specs.Plain.{Cut}
-use Rattle.records.specs.Windows.{keptSize, mostRecord, Stands, Within, part, Went, Follows, Stepped}
+use Rattle.records.specs.Session.{Run, run, markedBy, taken}
+use Rattle.records.specs.Windows.{mostRecord, Stands, Within, part, Went, Follows, Stepped}
 use Rattle.records.specs.Windows.{nothing, wholeRecord, taking, keptAfter, afterTaking, liesWhole, nextKept, nextTaken}
 use Rattle.records.proofs.Runs.{reaches, recorded-whole, grown-mark, taken-spoiled}
 use Rattle.records.proofs.Kept.{take-least, behind-two, part-is, length-kept, went-more}

@@ -1,25 +1,25 @@
 -- What the write of two lists is judged by, in the numbers of the lists; that the answer is what the entry promises; and that refusal 1 decides alike.
 use Prim.Native.Nat.{ℕ, zero, suc, _+_, _*_, _≤_, _<_}
-use mathlib.Core.Path.{_≡_, refl, sym, _∙_}
-use mathlib.Core.Bool.{Bool, true, false, cond, not, _&&_}
+use mathlib.Core.Path.{_≡_, refl, _∙_}
+use mathlib.Core.Bool.{true, false}
 use mathlib.Core.Logic.{_↔_}
-use mathlib.Core.List.{List, [], _∷_}
+use mathlib.Core.List.{List, []}
 use native.Mathlib.Decide.{decLt, ℕ-discrete}
 use native.Mathlib.Omega.{arith}
 use borrow.Author.Tests.{lt-ltb, le-ltb, eq-eqb, ne-eqb}
 use lib.ListN.{length, getD}
-use lib.Dec.{eqb, ltb}
+use lib.Dec.{eqb}
 use Rattle.wire.specs.First.{first}
 use Rattle.wire.proofs.Copies.{Same, front, part}
 use Rattle.opcode.specs.Fields.{fault, wordsAt, rise}
 use Rattle.opcode.specs.Commands.{commandOf}
-use Rattle.opcode.specs.Judgement.{judgement, sizeWrong, controlSizeWrong, valueFault, controlFault, listsFault, faultPlace}
+use Rattle.opcode.specs.Judgement.{judgement, sizeWrong, controlSizeWrong, valueFault, controlFault, listsFault}
 use Rattle.opcode.specs.Allowed.{Allowed}
 use Rattle.opcode.specs.Faults.{FirstFault}
 use Rattle.opcode.proofs.Accepts.{accepts}
 use Rattle.opcode.proofs.Accepts.Lists.{length-wordsAt, rising-rise, rise-rising}
 use Rattle.opcode.proofs.Faults.{located}
-use Rattle.settings.specs.Ranges.{rising, listsRise}
+use Rattle.settings.specs.Ranges.{listsRise}
 use Rattle.settings.proofs.Same.{words-same}
 use Rattle.rising.specs.Alone.{opcode, options, written, refusal, place, packed, RisingTold}
 

@@ -1,13 +1,11 @@
 -- The plain promises of the C entries hold of one outcome at most: the parts of the answer are determined by the entry beneath, and make one number.
-use Prim.Native.Nat.{ℕ, _+_, _*_}
+use Prim.Native.Nat.{ℕ}
 use mathlib.Core.Path.{_≡_, sym, ap, _∙_}
 use mathlib.Core.Bool.{Bool}
 use mathlib.Core.List.{List}
 use Rattle.wire.specs.Plain.{Bytes}
-use Rattle.packet.specs.Reading.{Answer}
 use Rattle.packet.specs.Making.{Made}
 use Rattle.packet.proofs.Determined.{read-determined, make-determined}
-use Rattle.reply.specs.Answer.{ReplyAnswer}
 use Rattle.reply.proofs.Determined.{«determined» as reply-determined}
 use Rattle.controller.proofs.Determined.{rows-determined}
 use Rattle.controller8.specs.Bytes.{Lent, LentOut, LentReset}
