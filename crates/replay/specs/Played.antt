@@ -67,9 +67,9 @@ pub record Closed (s : Stand) (out out' : List ℕ) : Type 0 where
   pub at-end : s .how ≡ 1 → out' ≡ sets out 0 (closingText (carried s) out)
   pub else-same : (s .how ≡ 1 → ⊥) → out' ≡ out
 
--- Rules 9.2 to 9.7: the whole run, from reset: what was read, what is carried at the end stands for it, and the lines behind the last record are those of what is carried.
-pub record Ran (kept : List ℕ) (t : State) (out' : List ℕ) : Type 0 where
-  pub last : Stand
+-- Rules 9.2 to 9.7: the whole run, from reset. Unless a write failed, what is carried at the end stands for some bytes, those that were read; and the lines behind the last record are
+-- those of what is carried.
+pub record Ran (last : Stand) (kept : List ℕ) (t : State) (out' : List ℕ) : Type 0 where
   pub read : ReadSoFar last kept t
   pub out : List ℕ
   pub closed : Closed last out out'

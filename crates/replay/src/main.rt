@@ -57,7 +57,7 @@ struct Stand {
     how: usize,
 }
 
-// Window after window, until there is no more to read or to write.
+// Window after window, until there is no more to read or to write. Answers how it stands at the end.
 fn run(
     window: &mut [u8],
     kept: &mut [u8],
@@ -67,9 +67,9 @@ fn run(
     gains: &mut [u16],
     reply: &mut [u8],
     out: &mut [u8],
-)
+) -> Stand
     requires { ⌜ state (now block) (now staged) (now live) (now gains) ≡ resetState ⌝ }
-    ensures { λ _. ⌜ Ran (now (kept .exit)) (state (now (block .exit)) (now (staged .exit)) (now (live .exit)) (now (gains .exit))) (now (out .exit)) ⌝ }
+    ensures { λ r. ⌜ Ran r (now (kept .exit)) (state (now (block .exit)) (now (staged .exit)) (now (live .exit)) (now (gains .exit))) (now (out .exit)) ⌝ }
 {
     let mut s = Stand {
         marked: 0,
@@ -83,6 +83,7 @@ fn run(
         turns = left(turns, s.how);
     }
     close(s, out);
+    s
 }
 
 // Reads a window, and replays it.

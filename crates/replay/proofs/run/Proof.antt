@@ -67,7 +67,7 @@ same-length-8 : tie.Need-same-length-8 Inv-loop μ-loop
 same-length-8 c = search needs
 
 returns : tie.Need-returns Inv-loop μ-loop
-returns c = record { last = c .before .before .before .before .before .loop .s; read = c .before .before .before .before .before .loop .inv .0; out = c .before .before .before .before .before .loop .out; closed = c .before .before .close .ensures }
+returns c = record { read = c .before .before .before .before .before .loop .inv .0; out = c .before .before .before .before .before .loop .out; closed = c .before .before .close .ensures }
 
 pub run-spec : {M : Type 1} → statement M
 run-spec =
