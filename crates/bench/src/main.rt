@@ -3,35 +3,21 @@
 use packet::Reading;
 use planning::Answer;
 use wire::Refusal;
-ghost use Prim.Native.Nat.{_<_};
-ghost use lib.ListN.{length};
+ghost use Prim.Native.Nat.{_≤_, _<_};
+ghost use mathlib.Core.Path.{_≡_};
+ghost use lib.ListN.{length, take};
 
 fn main() {
-    present(b"");
-    present(b"\x24\x11");
-    present(b"\x04\x11\x01");
-    present(b"\x84\x11");
-    present(b"\x44\x11\x01");
-    present(b"\x0C\x11\x00\x01");
-    present(b"\x24\x11\x01\x8F");
-    present(b"\x24\x11\x01\x36");
-    present(b"\x60");
-    present(b"\x04\x10\x00");
-    present(b"\x03\x11\x01");
-    present(b"\x14\x11\x02\x00\x01");
-    present(b"\x04\x11\x05");
-    present(b"\x04\x1A\x01");
-    present(b"\x04\x1A\x02");
-    present(b"\x04\x39\x01");
-    present(b"\x04\x39\x02");
-    present(b"\x04\x34\x00\x00\x08\x00\x10\x00");
-    present(b"\x14\x34\x02\x00\x00\x00");
-    present(b"\x14\x34\x06\x00\xBF\x07\x01\x00\x02\x00");
-    // Refusal 12 comes after reading, which takes this one.
-    present(b"\x14\x34\x06\x00\xC0\x07\x01\x00\x02\x00");
-    present(b"\x14\x2B\x08\x00\x00\x01\x01\x00\xDF\x07\x00\x14");
-    present_pairs();
-    present_faults();
+    // Frames, commands and points; the last but one is refused with 12 behind reading, which takes it.
+    present_all(
+        b"\x00\x02\x24\x11\x03\x04\x11\x01\x02\x84\x11\x03\x44\x11\x01\x04\x0C\x11\x00\x01\x04\x24\x11\x01\x8F\x04\x24\x11\x01\x36\x01\x60\x03\x04\x10\x00\x03\x03\x11\x01\x05\x14\x11\x02\x00\x01\x03\x04\x11\x05\x03\x04\x1A\x01\x03\x04\x1A\x02\x03\x04\x39\x01\x03\x04\x39\x02\x08\x04\x34\x00\x00\x08\x00\x10\x00\x06\x14\x34\x02\x00\x00\x00\x0a\x14\x34\x06\x00\xBF\x07\x01\x00\x02\x00\x0a\x14\x34\x06\x00\xC0\x07\x01\x00\x02\x00\x0c\x14\x2B\x08\x00\x00\x01\x01\x00\xDF\x07\x00\x14",
+    );
+    // Compressed gains. The last two are the guide's example with its length field: its first two pairs, the second of them 0 of 63; then all of it.
+    present_all(
+        b"\x0e\x14\x2B\x0A\x00\x01\x01\x02\x00\xDE\x07\x02\x00\x00\x14\x0e\x14\x2B\x0A\x00\x01\x01\x02\x00\xDF\x07\x02\x00\x00\x14\x0e\x14\x2B\x0A\x00\x01\x01\x02\x00\xDE\x07\x00\x00\x00\x14\x0c\x14\x2B\x08\x00\x01\x01\x01\x00\x00\x00\x02\x00\x0c\x14\x2B\x08\x00\x02\x01\x01\x00\x00\x00\x02\x00\x0a\x14\x2B\x06\x00\x01\x01\x00\x00\x00\x00\x0e\x14\x2B\x0A\x00\x01\x01\x02\x00\x00\x00\x01\x00\x00\x20\x0e\x14\x2B\x0A\x00\x01\x01\x02\x00\x00\x00\xE1\x07\x00\x14\x0e\x14\x2B\x0A\x00\x01\x04\x02\x00\x00\x00\x01\x00\x00\x14\x12\x14\x2B\x0E\x00\x01\x02\x04\x00\x03\x00\x02\x00\x00\x14\x01\x00\xFF\x1F\x12\x54\x2B\x0E\x00\x01\x00\x04\x00\x00\x00\x3F\x00\x00\x10\x00\x00\x3F\x00\x8a\x54\x2B\x86\x00\x01\x00\x40\x00\x00\x00\x3F\x00\x00\x10\x00\x00\x3F\x00\x00\x00\x3F\x00\x00\x00\x3F\x00\x00\x00\x3F\x00\x00\x00\x3F\x00\x00\x00\x3F\x00\x00\x00\x3F\x00\x00\x00\x3F\x00\x00\x00\x3F\x00\x00\x00\x3F\x00\x00\x00\x3F\x00\x00\x00\x3F\x00\x00\x00\x3F\x00\x00\x00\x3F\x00\x00\x00\x3F\x00\x3F\x00\x7F\x0F\x3F\x00\x75\x0E\x3F\x00\x6C\x0D\x3F\x00\x6A\x0C\x3F\x00\x60\x0B\x3F\x00\x57\x0A\x3F\x00\x4D\x09\x3F\x00\x44\x08\x3F\x00\x42\x07\x3F\x00\x38\x06\x3F\x00\x2F\x05\x3F\x00\x25\x04\x3F\x00\x1C\x03\x3F\x00\x1A\x02\x3F\x00\x11\x01\x3F\x00\x07\x00",
+    );
+    // Two faults, of which the first is named: a UART of baud 12 and parity 3. A read of pin 88.
+    present_all(b"\x0e\x64\x6D\x00\x01\x0C\x03\x00\x03\x00\x00\x00\x00\x00\xD0\x03\x84\x60\x58");
     // Points 0 and 2 differ; points 0 and 3 differ.
     present_plan(&[0, 0, 0, 0, 0, 0, 0, 0], &[1, 2, 0, 0, 3, 4, 0, 0]);
     present_plan(&[0, 0, 0, 0, 0, 0, 0, 0], &[1, 2, 0, 0, 0, 0, 3, 4]);
@@ -47,29 +33,27 @@ fn main() {
     );
 }
 
-// Two faults, of which the first is named: a UART of baud 12 and parity 3. A read of pin 88.
-fn present_faults() {
-    present(b"\x64\x6D\x00\x01\x0C\x03\x00\x03\x00\x00\x00\x00\x00\xD0");
-    present(b"\x84\x60\x58");
+// The packets of a script, each behind its length.
+fn present_all(script: &[u8]) {
+    let mut at = 0;
+    while at < script.len() {
+        let next = behind(script, at);
+        present(&script[at + 1..next]);
+        at = next;
+    }
 }
 
-// The bench packets of compressed gains.
-fn present_pairs() {
-    present(b"\x14\x2B\x0A\x00\x01\x01\x02\x00\xDE\x07\x02\x00\x00\x14");
-    present(b"\x14\x2B\x0A\x00\x01\x01\x02\x00\xDF\x07\x02\x00\x00\x14");
-    present(b"\x14\x2B\x0A\x00\x01\x01\x02\x00\xDE\x07\x00\x00\x00\x14");
-    present(b"\x14\x2B\x08\x00\x01\x01\x01\x00\x00\x00\x02\x00");
-    present(b"\x14\x2B\x08\x00\x02\x01\x01\x00\x00\x00\x02\x00");
-    present(b"\x14\x2B\x06\x00\x01\x01\x00\x00\x00\x00");
-    present(b"\x14\x2B\x0A\x00\x01\x01\x02\x00\x00\x00\x01\x00\x00\x20");
-    present(b"\x14\x2B\x0A\x00\x01\x01\x02\x00\x00\x00\xE1\x07\x00\x14");
-    present(b"\x14\x2B\x0A\x00\x01\x04\x02\x00\x00\x00\x01\x00\x00\x14");
-    present(b"\x14\x2B\x0E\x00\x01\x02\x04\x00\x03\x00\x02\x00\x00\x14\x01\x00\xFF\x1F");
-    // The guide's example of compressed gains, with its length field: its first two pairs, the second of them 0 of 63; then all of it.
-    present(b"\x54\x2B\x0E\x00\x01\x00\x04\x00\x00\x00\x3F\x00\x00\x10\x00\x00\x3F\x00");
-    present(
-        b"\x54\x2B\x86\x00\x01\x00\x40\x00\x00\x00\x3F\x00\x00\x10\x00\x00\x3F\x00\x00\x00\x3F\x00\x00\x00\x3F\x00\x00\x00\x3F\x00\x00\x00\x3F\x00\x00\x00\x3F\x00\x00\x00\x3F\x00\x00\x00\x3F\x00\x00\x00\x3F\x00\x00\x00\x3F\x00\x00\x00\x3F\x00\x00\x00\x3F\x00\x00\x00\x3F\x00\x00\x00\x3F\x00\x00\x00\x3F\x00\x3F\x00\x7F\x0F\x3F\x00\x75\x0E\x3F\x00\x6C\x0D\x3F\x00\x6A\x0C\x3F\x00\x60\x0B\x3F\x00\x57\x0A\x3F\x00\x4D\x09\x3F\x00\x44\x08\x3F\x00\x42\x07\x3F\x00\x38\x06\x3F\x00\x2F\x05\x3F\x00\x25\x04\x3F\x00\x1C\x03\x3F\x00\x1A\x02\x3F\x00\x11\x01\x3F\x00\x07\x00",
-    );
+// Where the packet ends whose length stands at a place.
+fn behind(script: &[u8], at: usize) -> usize
+    requires { ⌜ at < length (now script) ⌝ }
+    ensures { λ r. ⌜ (at < r) × (r ≤ length (now (script .entry))) ⌝ }
+{
+    let end = at + 1 + wire::byte(script, at);
+    if end < script.len() {
+        end
+    } else {
+        script.len()
+    }
 }
 
 // The plan for a map of four points: its packets, its bytes and the batch.
@@ -154,8 +138,7 @@ fn present_refusals(script: &[u8]) {
     let mut at = 0;
     while at < script.len() {
         plan_part(
-            script,
-            at,
+            &script[at..],
             &map,
             &mut plan,
             &mut room,
@@ -168,43 +151,21 @@ fn present_refusals(script: &[u8]) {
 
 // One plan on parts that are no longer than the lists, held and wanted being parts of one map.
 fn plan_part(
-    script: &[u8],
-    at: usize,
+    row: &[u8],
     map: &[u16],
     plan: &mut [u16],
     room: &mut [u32],
     choices: &mut [u8],
     batch: &mut [u8],
-)
-    requires { ⌜ at < length (now script) ⌝ }
-{
-    let points = wire::word(script, at);
-    let h = wire::word(script, at + 2);
-    let w = wire::word(script, at + 4);
-    let p = wire::word(script, at + 6);
-    let r = wire::word(script, at + 8);
-    let c = wire::word(script, at + 10);
-    let b = wire::word(script, at + 12);
-    if map.len() < h {
-        return;
-    }
-    if map.len() < w {
-        return;
-    }
-    if plan.len() < p {
-        return;
-    }
-    if room.len() < r {
-        return;
-    }
-    if choices.len() < c {
-        return;
-    }
-    if batch.len() < b {
-        return;
-    }
+) {
+    let h = words_of(map, row, 2);
+    let w = words_of(map, row, 4);
+    let p = words_of(plan, row, 6);
+    let r = longs_of(room, row, 8);
+    let c = bytes_of(choices, row, 10);
+    let b = bytes_of(batch, row, 12);
     try_plan(
-        points as u32,
+        row,
         &map[..h],
         &map[..w],
         &mut plan[..p],
@@ -214,8 +175,30 @@ fn plan_part(
     );
 }
 
+// As many numbers of a list as a place of the row asks for, if it has them.
+fn words_of(list: &[u16], row: &[u8], i: usize) -> usize
+    ensures { λ r. ⌜ (r ≤ length (now (list .entry))) × (r ≡ length (take r (now (list .entry)))) ⌝ }
+{
+    let n = wire::word(row, i);
+    if n < list.len() { n } else { list.len() }
+}
+
+fn longs_of(list: &[u32], row: &[u8], i: usize) -> usize
+    ensures { λ r. ⌜ (r ≤ length (now (list .entry))) × (r ≡ length (take r (now (list .entry)))) ⌝ }
+{
+    let n = wire::word(row, i);
+    if n < list.len() { n } else { list.len() }
+}
+
+fn bytes_of(list: &[u8], row: &[u8], i: usize) -> usize
+    ensures { λ r. ⌜ (r ≤ length (now (list .entry))) × (r ≡ length (take r (now (list .entry)))) ⌝ }
+{
+    let n = wire::word(row, i);
+    if n < list.len() { n } else { list.len() }
+}
+
 fn try_plan(
-    points: u32,
+    row: &[u8],
     held: &[u16],
     wanted: &[u16],
     plan: &mut [u16],
@@ -223,6 +206,7 @@ fn try_plan(
     choices: &mut [u8],
     batch: &mut [u8],
 ) {
+    let points = wire::word(row, 0) as u32;
     let a = planner16::plan(points, held, wanted, plan, room, choices, batch);
     print_answer(b"  status ", a);
     show_left(plan, room, choices, batch);

@@ -15,6 +15,15 @@ abbrev μ-loop : tie.MeasureT-loop
 loop-holds : tie.Need-loop-holds Inv-loop μ-loop
 loop-holds c = search needs
 
+sub-plan-part : tie.Need-sub-plan-part Inv-loop μ-loop
+sub-plan-part c = search needs
+
+part-plan-part-start : tie.Need-part-plan-part-start Inv-loop μ-loop
+part-plan-part-start c = search needs
+
+part-plan-part-end : tie.Need-part-plan-part-end Inv-loop μ-loop
+part-plan-part-end c = search needs
+
 slice-aggregate-plan-part : tie.Need-slice-aggregate-plan-part Inv-loop μ-loop
 slice-aggregate-plan-part c = search needs
 
@@ -52,6 +61,9 @@ present-refusals-spec =
     Inv-loop
     μ-loop
     loop-holds
+    sub-plan-part
+    part-plan-part-start
+    part-plan-part-end
     slice-aggregate-plan-part
     slice-aggregate-plan-part-2
     slice-aggregate-plan-part-3
