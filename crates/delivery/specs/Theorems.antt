@@ -22,6 +22,7 @@ use Rattle.compress.specs.Plain.{Compressible}
 use Rattle.split.specs.Plain.{Splittable}
 use Rattle.delivery.specs.Delivery.{Delivered}
 use Rattle.delivery.specs.Gains.{GainsDelivered}
+use Rattle.delivery.specs.OnBytes.{OnBytes}
 
 pub record Theorems : Type 0 where
   -- Rule 5.6: packets none of which is an accepted apply leave the live side, whatever they are.
@@ -42,6 +43,8 @@ pub record Theorems : Type 0 where
   pub compressed-delivered : (colour start : ℕ) (gains : List ℕ) → Compressible gains → colour ≤ 3 → start + length gains ≤ 2016
       → (s : State) (reply : List ℕ) → LentRight s reply
       → (expand (compressed gains) ≡ gains) × Splittable colour start (compressed gains) × GainsDelivered colour start (compressed gains) s reply
+  -- Rule 1.3: all of this holds of calls on lent bytes, byte for byte, as C makes them.
+  pub on-bytes : OnBytes
   -- Every number of a batch is a byte.
   pub batch-bytes : (n : ℕ) (held wanted : List ℕ) → n ≤ 65536 → MapOf n held → MapOf n wanted → (k : ℕ) → getD (batchOf held wanted) k 0 < 256
   -- Rules 2.1 and 2.4: a sound packet with a length field has as many bytes as it announces.

@@ -14,6 +14,8 @@ use Rattle.compress.specs.Compress.{compressed}
 use Rattle.compress.proofs.Fewest.{expand-compressed}
 use Rattle.delivery.proofs.Sent.{delivered}
 use Rattle.delivery.proofs.Pairs.{gains-delivered, compressed-splittable}
+use Rattle.delivery.proofs.Chains.{same, wrong-length, from-reset, live-kept as live-kept-bytes, mark-stays, mark-from-reset}
+use Rattle.delivery.proofs.Uploads.{delivered-bytes, gains-bytes, compressed-bytes}
 use Rattle.delivery.proofs.theorems.Statement.{statement}
 use Rattle.delivery.proofs.theorems.Tie as tie
 
@@ -30,6 +32,18 @@ returns c =
       compressed-delivered = λ colour start gains g c h s reply l.
           let f = compressed-splittable colour start gains g c h in
           (expand-compressed gains, f, gains-delivered colour start (compressed gains) f s reply (runs s reply (right-running l)));
+      on-bytes =
+          record {
+            same = same;
+            wrong-length = wrong-length;
+            from-reset = from-reset;
+            live-kept = live-kept-bytes;
+            mark-stays = mark-stays;
+            mark-from-reset = mark-from-reset;
+            delivered = delivered-bytes;
+            gains-delivered = gains-bytes;
+            compressed-delivered = compressed-bytes;
+          };
       batch-bytes = λ n held wanted small h w. batch-bytes n small wanted w held h;
       announced-sound = λ p s h. rw h (omega (arith, s .whole, s .counted h));
       batch-walked = λ n held wanted h w. batch-announced n held wanted (h .long) (w .long);
