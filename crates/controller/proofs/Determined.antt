@@ -4,30 +4,39 @@ use Prim.Native.Nat.{ℕ, zero, suc, _+_, _*_, _^_, _≤_, _<_}
 use mathlib.Core.Path.{_≡_, refl, sym, ap, subst, _∙_}
 use mathlib.Core.Logic.{_↔_}
 use mathlib.Core.Bool.{Bool, true, false, true≢false}
-use mathlib.Core.List.{List}
+use mathlib.Core.List.{List, [], _∷_}
 use native.Mathlib.Omega.{arith}
 use native.Mathlib.Decide.{ℕ-discrete}
-use lib.ListN.{length, take, drop, getD, length-take, length-drop}
+use borrow.Author.Tests.{eq-eqb, ne-eqb}
+use lib.ListN.{length, take, drop, getD, length-take, length-drop, length-replicate}
 use lib.Seq.{paste, length-paste, ext-getD, getD-take, getD-drop}
 use Rattle.wire.specs.Numbers.{byteAt}
 use Rattle.wire.specs.Plain.{Bytes}
+use Rattle.wire.specs.Tables.{longBytes}
+use Rattle.wire.proofs.Copies.{paste-there}
 use Rattle.wire.proofs.Plain.{least-one}
-use Rattle.opcode.specs.Options.{isRead}
+use Rattle.opcode.specs.Options.{isRead, optionsIn}
 use Rattle.opcode.specs.Allowed.{two}
 use Rattle.packet.specs.Frame.{headerOf, opcodeOf, dataOf}
 use Rattle.packet.proofs.Determined.{same-fault}
-use Rattle.rows.specs.Bits.{bitAt}
+use Rattle.rows.specs.Bits.{ofBits, bitAt}
 use Rattle.rows.specs.Right.{Moved}
-use Rattle.rows.proofs.Plain.{same-bits}
+use Rattle.rows.proofs.Bits.{length-bits}
+use Rattle.rows.proofs.Rows.{length-refreshed, length-each}
+use Rattle.rows.proofs.Plain.{same-bits, of-bits-small}
 use Rattle.controller.specs.State.{State, state, lengthsRight, ResetOut, reset, resetState}
 use Rattle.controller.specs.Commands.{written}
 use Rattle.controller.specs.Step.{answers, Out, step}
+use Rattle.controller.specs.Mark.{markAfter, marks, withMark, markedBlock}
+use Rattle.settings.specs.Layout.{markPlace, markSize}
 use Rattle.controller.specs.Effects.{blockWith}
-use Rattle.controller.specs.Rows.{markOf, columnsOf, rowsOf, RowRight, TouchedBy, RowsPlain}
+use Rattle.controller.specs.Rows.{markOf, MarkBytes, columnsOf, rowsOf, RowRight, TouchedBy, RowsPlain}
 use Rattle.controller.specs.Plain.{StateLent, Asks, ReplyData, ReplyWritten, StepPlain, ResetPlain, Pinned}
 use Rattle.controller.proofs.Effects.{leaves, returns}
 use Rattle.controller.proofs.Demands.{state-lent, resets}
 use Rattle.controller.proofs.Accepting.{written-long}
+use Rattle.controller.proofs.Changes.{Way, way, changed, changed-long}
+use Rattle.controller.proofs.Kept.{tail-changed}
 use Rattle.controller.proofs.ReadBack.{asks-it, answered}
 use Rattle.controller.proofs.Marks.{put-mark, front-byte}
 use Rattle.controller.proofs.Handled.{handled}
@@ -77,23 +86,23 @@ each-of-4 P a b c d (suc (suc zero)) h = c
 each-of-4 P a b c d (suc (suc (suc zero))) h = d
 each-of-4 P a b c d (suc (suc (suc (suc k)))) h = absurd (omega arith)
 
-same-four : (b c : List ℕ) → Bytes b → Bytes c → length (take 4 (drop 865 b)) ≡ 4 → length (take 4 (drop 865 c)) ≡ 4 → markOf b ≡ markOf c
+same-four : (b c : List ℕ) → MarkBytes b → MarkBytes c → length (take 4 (drop 865 b)) ≡ 4 → length (take 4 (drop 865 c)) ≡ 4 → markOf b ≡ markOf c
     → take 4 (drop 865 b) ≡ take 4 (drop 865 c)
 same-four b c small few lb lc same =
-    let word-b : two (getD b 865 0) (getD b 866 0) < 65536 = omega (arith, small 865, small 866) in
-    let word-c : two (getD c 865 0) (getD c 866 0) < 65536 = omega (arith, few 865, few 866) in
+    let word-b : two (getD b 865 0) (getD b 866 0) < 65536 = omega (arith, small 0 (omega arith), small 1 (omega arith)) in
+    let word-c : two (getD c 865 0) (getD c 866 0) < 65536 = omega (arith, few 0 (omega arith), few 1 (omega arith)) in
     let halves = wide-same (two (getD b 865 0) (getD b 866 0)) (two (getD b 867 0) (getD b 868 0)) (two (getD c 865 0) (getD c 866 0)) (two (getD c 867 0) (getD c 868 0)) word-b word-c same in
-    let low = low-same (getD b 865 0) (getD b 866 0) (getD c 865 0) (getD c 866 0) (small 865) (few 865) (halves .0) in
-    let high = low-same (getD b 867 0) (getD b 868 0) (getD c 867 0) (getD c 868 0) (small 867) (few 867) (halves .1) in
+    let low = low-same (getD b 865 0) (getD b 866 0) (getD c 865 0) (getD c 866 0) (small 0 (omega arith)) (few 0 (omega arith)) (halves .0) in
+    let high = low-same (getD b 867 0) (getD b 868 0) (getD c 867 0) (getD c 868 0) (small 2 (omega arith)) (few 2 (omega arith)) (halves .1) in
     let each : (k : ℕ) → k < 4 → getD b (865 + k) 0 ≡ getD c (865 + k) 0 =
     each-of-4 (λ (k : ℕ). getD b (865 + k) 0 ≡ getD c (865 + k) 0) (low .0) (low .1) (high .0) (high .1) in
     ext-getD 0 (take 4 (drop 865 b)) (take 4 (drop 865 c)) (lb ∙ sym lc)
     (λ k h. let l : k < 4 = omega arith in four-of b k l ∙ each k l ∙ sym (four-of c k l))
 
-mark-small : (b : List ℕ) → Bytes b → markOf b < 2 ^ 32
+mark-small : (b : List ℕ) → MarkBytes b → markOf b < 2 ^ 32
 mark-small b small =
-    let low : two (getD b 865 0) (getD b 866 0) < 65536 = omega (arith, small 865, small 866) in
-    let high : two (getD b 867 0) (getD b 868 0) < 65536 = omega (arith, small 867, small 868) in
+    let low : two (getD b 865 0) (getD b 866 0) < 65536 = omega (arith, small 0 (omega arith), small 1 (omega arith)) in
+    let high : two (getD b 867 0) (getD b 868 0) < 65536 = omega (arith, small 2 (omega arith), small 3 (omega arith)) in
     omega arith
 
 -- ---- Bits: equal, if each is set exactly where the other is; and equality of numbers may be argued by contradiction.
@@ -162,7 +171,7 @@ both-right b c r h k =
 
 -- ---- One packet: an accepted write.
 
-module _ (p : List ℕ) (s : State) (reply : List ℕ) {o q : Out} (small : Bytes (o .state .block)) (few : Bytes (q .state .block))
+module _ (p : List ℕ) (s : State) (reply : List ℕ) {o q : Out} (small : MarkBytes (o .state .block)) (few : MarkBytes (q .state .block))
     (f : StepPlain p s reply o) (g : StepPlain p s reply q) (zo : o .status ≡ 0) (zq : q .status ≡ 0) (write : isRead (headerOf p) ≡ 0)
     {w : State} (b : ButMark w (o .state)) (c : ButMark w (q .state)) where
   four-long : {t : State} → ButMark w t → length (take 4 (drop 865 (t .block))) ≡ 4
@@ -220,7 +229,7 @@ module _ (p : List ℕ) (bytes : Bytes p) (s : State) (reply : List ℕ) where
       but-mark (written (opcodeOf p) (dataOf p) s) (o .state) (written-long p s reply number w)
       (left .all-but-mark ∙ ap (λ (t : State). blockWith t 865 (take 4 (drop 865 (o .state .block)))) (sym (leaves (left .by))))
 
-  same-state : {o q : Out} → Bytes (o .state .block) → Bytes (q .state .block) → StepPlain p s reply o → StepPlain p s reply q
+  same-state : {o q : Out} → MarkBytes (o .state .block) → MarkBytes (q .state .block) → StepPlain p s reply o → StepPlain p s reply q
       → o .status ≡ q .status → o .state ≡ q .state
   same-state {o} {q} small few f g same =
       elim (ℕ-discrete (o .status) 0) [
@@ -255,7 +264,7 @@ module _ (p : List ℕ) (bytes : Bytes p) (s : State) (reply : List ℕ) where
           let y = g .silent (λ a. sym same ∙ one a) in
           (x .0 ∙ sym (y .0), x .1 ∙ sym (y .1))
 
-pub step-determined : (p : List ℕ) → Bytes p → (s : State) (reply : List ℕ) (o q : Out) → Bytes (o .state .block) → Bytes (q .state .block)
+pub step-determined : (p : List ℕ) → Bytes p → (s : State) (reply : List ℕ) (o q : Out) → MarkBytes (o .state .block) → MarkBytes (q .state .block)
     → StepPlain p s reply o → StepPlain p s reply q → o ≡ q
 step-determined p bytes s reply o q small few f g =
     let status : o .status ≡ q .status = least-one (o .status) (q .status) (f .number) (g .number) in
@@ -268,6 +277,56 @@ step-determined p bytes s reply o q small few f g =
         → _≡_ {A = Out} (record { status = n; fault = f; size = size; state = s; reply = r })
         (record { status = n′; fault = f′; size = size′; state = s′; reply = r′ })
     same n f z s r = cc
+
+-- ---- The mark's bytes stay bytes.
+
+-- The four bytes of a number below 2 ^ 32.
+number-bytes : (n : ℕ) → n < 2 ^ 32 → (k : ℕ) → k < 4 → getD (longBytes (n ∷ [])) k 0 < 256
+number-bytes n h =
+    each-of-4 (λ (k : ℕ). getD (longBytes (n ∷ [])) k 0 < 256) (omega arith) (omega arith) (omega arith) (omega arith)
+
+marked-bytes : (mark : List Bool) (block : List ℕ) → length mark ≡ 32 → length block ≡ 1024 → MarkBytes (withMark mark block)
+marked-bytes mark block l b k h =
+    let there = paste-there block (longBytes (ofBits mark ∷ [])) markPlace markSize (omega arith) (omega arith) in
+    rw (there .each k h) (number-bytes (ofBits mark) (subst (λ (n : ℕ). ofBits mark < 2 ^ n) l (of-bits-small mark)) (0 + k) (omega arith))
+
+mark-long : (op : ℕ) (d : List ℕ) (columns rows : ℕ) (staged live : List ℕ) (m : List Bool) → length m ≡ 32
+    → length (markAfter op d columns rows staged live m) ≡ 32
+unfolding markAfter
+mark-long op d columns rows staged live m l =
+    elim (ℕ-discrete op 0x34) [
+      | yes e ↦ rw (eq-eqb op 0x34 e) (length-refreshed _ _ _ m ∙ l)
+      | no not-34 ↦
+          rw (ne-eqb op 0x34 not-34)
+          (elim (ℕ-discrete op 0x35) [
+            | yes e ↦ rw (eq-eqb op 0x35 e) (length-each _ 0 32)
+            | no not-35 ↦ rw (ne-eqb op 0x35 not-35) (length-replicate {A = Bool} 32 false)
+          ])
+    ]
+
+-- Of any packet.
+pub mark-bytes : (p : List ℕ) (s : State) (reply : List ℕ) → MarkBytes (s .block) → MarkBytes (step p s reply .state .block)
+unfolding written markedBlock
+mark-bytes p s reply small = go (way p s reply)
+  where
+    after : State
+    after = written (opcodeOf p) (dataOf p) s
+
+    pass : (b : Bool) → marks (opcodeOf p) (dataOf p) ≡ b → length (after .block) ≡ 1024 → MarkBytes (after .block)
+        → MarkBytes (markedBlock (opcodeOf p) (dataOf p) (after .block) (after .staged) (after .live))
+    pass true e l h = rw e (marked-bytes _ (after .block) (mark-long (opcodeOf p) (dataOf p) _ _ _ _ _ (length-bits 32 _)) l)
+    pass false e l h = rw e h
+
+    go : Way p s reply → MarkBytes (step p s reply .state .block)
+    go (Way.same e) = subst (λ (t : State). MarkBytes (t .block)) (sym e) small
+    go (Way.wrote st r a e) =
+        let by = changed (opcodeOf p) (optionsIn (headerOf p)) (dataOf p) (omega arith) (a .command .judged) in
+        let long = a .lent .tables .block in
+        let tail = tail-changed by (s .block) long in
+        let same : (k : ℕ) → getD (after .block) (865 + k) 0 ≡ getD (s .block) (865 + k) 0 =
+        λ k. sym (getD-drop 865 (after .block) k 0) ∙ ap (λ (b : List ℕ). getD b k 0) tail ∙ getD-drop 865 (s .block) k 0 in
+        subst (λ (t : State). MarkBytes (t .block)) (sym e)
+        (pass (marks (opcodeOf p) (dataOf p)) refl (changed-long by (s .block) long) (λ k h. subst (λ (n : ℕ). n < 256) (sym (same k)) (small k h)))
 
 -- ---- Reset.
 
@@ -331,5 +390,6 @@ pinned =
       answer = λ status fault size s reply. refl;
       reset-answer = λ status s. refl;
       one-packet = λ p bytes s reply. handled p bytes s reply refl .plain;
+      mark-stays-bytes = mark-bytes;
       at-reset = λ s l. resets s {o = record { status = 0; state = resetState }} (rw (state-lent s .1 l)) .plain;
     }

@@ -4,7 +4,7 @@ use mathlib.Core.Path.{_≡_, refl}
 use mathlib.Core.List.{List, [], _∷_}
 use native.Mathlib.Omega.{arith}
 use lib.ListN.{getD}
-use Rattle.opcode.specs.Faults.{Located}
+use Rattle.opcode.proofs.Faults.{Located}
 use Rattle.opcode.proofs.Faults.{located}
 use Rattle.packet.specs.Frame.{opcodeOf, optionsOf, dataOf}
 use Rattle.packet.specs.Reading.{frameRefusals}

@@ -14,7 +14,7 @@ use Rattle.wire.proofs.Plain.{Each, first-applies}
 use Rattle.wire.proofs.Tests.{first-right, first-silent}
 use Rattle.opcode.specs.Options.{isRead}
 use Rattle.opcode.specs.Judgement.{judgement}
-use Rattle.opcode.specs.Faults.{Located}
+use Rattle.opcode.proofs.Faults.{Located}
 use Rattle.opcode.specs.Plain.{not-carried, lacks-length, wrong-size, out-of-range, merges}
 use Rattle.packet.specs.Frame.{headerOf, opcodeOf, optionsOf, dataOf}
 use Rattle.packet.specs.Reading.{refusals, reading}

@@ -20,7 +20,7 @@ use Rattle.settings.specs.AfterReset.{byteAfterReset}
 use Rattle.controller.specs.State.{State, state, resetState, ResetOut, resetOut}
 use Rattle.controller.specs.Step.{Out, out, step}
 use Rattle.controller.specs.Effects.{blockWith, Leaves, Returns}
-use Rattle.controller.specs.Rows.{columnsOf, rowsOf, RowsMarked}
+use Rattle.controller.specs.Rows.{MarkBytes, columnsOf, rowsOf, RowsMarked}
 
 -- ---- What is lent.
 
@@ -134,4 +134,6 @@ pub record Pinned : Type 0 where
   pub reset-answer : (status : ℕ) (s : State) → resetOut status s ≡ record { status = status; state = s }
   -- One packet, and the state that reset leaves, of which session files speak.
   pub one-packet : (p : List ℕ) → Bytes p → (s : State) (reply : List ℕ) → StepPlain p s reply (step p s reply)
+  -- Where the row mark is bytes it stays bytes, so that its bits determine it.
+  pub mark-stays-bytes : (p : List ℕ) (s : State) (reply : List ℕ) → MarkBytes (s .block) → MarkBytes (step p s reply .state .block)
   pub at-reset : (s : State) → StateLent s → ResetPlain s (record { status = 0; state = resetState })

@@ -21,6 +21,10 @@ use Rattle.controller.specs.Writes.{Writes, Applies}
 abbrev pub markOf : List ℕ → ℕ
 markOf block = two (getD block 865 0) (getD block 866 0) + 65536 * two (getD block 867 0) (getD block 868 0)
 
+-- These are bytes.
+abbrev pub MarkBytes : List ℕ → Type 0
+MarkBytes block = (k : ℕ) → k < 4 → getD block (865 + k) 0 < 256
+
 -- The staged shape, block bytes 9 to 12.
 abbrev pub columnsOf : List ℕ → ℕ
 columnsOf block = two (getD block 9 0) (getD block 10 0)

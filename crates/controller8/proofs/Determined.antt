@@ -1,5 +1,5 @@
 -- The plain promises of one packet and of reset, on bytes, hold of one outcome at most: bytes that hold the same numbers, and are as many, are the same.
-use Prim.Native.Nat.{ℕ, _*_}
+use Prim.Native.Nat.{ℕ, _+_, _*_}
 use mathlib.Core.Path.{_≡_, refl, sym, ap, _∙_}
 use mathlib.Core.Bool.{Bool, true, false}
 use mathlib.Core.List.{List}
@@ -52,7 +52,7 @@ pub step-determined-bytes : (p : List ℕ) → Bytes p → (l : Lent) (reply : L
 step-determined-bytes p bytes l reply o q small few f g =
     lent-or l
     (λ z.
-      let e = step-determined p bytes (stateIn l) reply (numbersOut o) (numbersOut q) (small .block) (few .block) (f .numbers z) (g .numbers z) in
+      let e = step-determined p bytes (stateIn l) reply (numbersOut o) (numbersOut q) (λ k h. small .block (865 + k)) (λ k h. few .block (865 + k)) (f .numbers z) (g .numbers z) in
       same (ap (λ (u : Out). u .status) e) (ap (λ (u : Out). u .fault) e) (ap (λ (u : Out). u .size) e)
       (same-lent (f .long z) (g .long z) small few (ap (λ (u : Out). u .state) e)) (ap (λ (u : Out). u .reply) e))
     (λ none.

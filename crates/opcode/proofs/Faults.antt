@@ -5,7 +5,7 @@ pub mod Varying
 pub mod Commands
 use Prim.Native.Nat.{ℕ, suc, _≤_, _<_, min}
 use mathlib.Core.Path.{_≡_, sym, _∙_}
-use mathlib.Core.Logic.{inl, inr, ⊎-elim}
+use mathlib.Core.Logic.{_⊎_, inl, inr, ⊎-elim}
 use mathlib.Core.Bool.{Bool, false}
 use mathlib.Core.List.{List, [], _++_}
 use native.Mathlib.Decide.{decLt, ℕ-discrete}
@@ -17,13 +17,25 @@ use Rattle.opcode.specs.Options.{isRead}
 use Rattle.opcode.specs.Commands.{commandOf}
 use Rattle.opcode.specs.Judgement.{unknown, sizeWrong, valueFault, valueWrong, judgement, faultPlace}
 use Rattle.opcode.specs.Allowed.{Allowed}
-use Rattle.opcode.specs.Faults.{FieldOf, FirstFault, Located}
-use Rattle.opcode.specs.Numbers.{Past}
+use Rattle.opcode.specs.Faults.{FieldOf, FirstFault}
 use Rattle.wire.proofs.Tests.{Among, Above, Rows, past-less, first-rows, told}
 use Rattle.opcode.proofs.Accepts.{accepts}
 use Rattle.opcode.proofs.Accepts.Commands.{_&_, asks-span, asks-sized}
 use Fields.{reached, stopped, FaultAt}
 use Commands.{read-before, read-wrong, write-before, write-at}
+
+-- A number is passed where a later one is given, or none.
+abbrev pub Past : ℕ → ℕ → Type 0
+Past n number = (number ≡ 0) ⊎ (n < number)
+
+-- Rule 4.6, of a refusal's number, 0 for none, and its place: 10 has the place of the first fault, and there is no other such place; any other number
+-- has none. Where 10 is passed, so that nothing or a later number is given, every field is within its range; so it is of all data that is allowed.
+pub record Located (op o : ℕ) (d : List ℕ) (number place : ℕ) : Type 0 where
+  pub first : number ≡ 10 → FirstFault op o d place
+  pub only : number ≡ 10 → {k : ℕ} → FirstFault op o d k → k ≡ place
+  pub none : (number ≡ 10 → ⊥) → place ≡ 0
+  pub within : (number ≡ 0) ⊎ (10 < number) → {j v low high : ℕ} → FieldOf op o d j v low high → (low ≤ v) × (v ≤ high)
+  pub allowed : Allowed op o d → {j v low high : ℕ} → FieldOf op o d j v low high → (low ≤ v) × (v ≤ high)
 
 -- The data of a read is all fields.
 read-long : (op o : ℕ) (d : List ℕ) → isRead o ≡ 1 → sizeWrong op o d ≡ false → length d ≡ commandOf op .read

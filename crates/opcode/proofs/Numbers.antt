@@ -16,7 +16,7 @@ use Rattle.opcode.specs.Fields.{fault}
 use Rattle.opcode.specs.Commands.{commandOf, fixed, variable, notCarried}
 use Rattle.opcode.specs.Judgement.{unknown, lacksLength, sizeWrong, namedOnly, judgement, pointsSizeWrong, gainsSizeWrong, controlSizeWrong, smoothSizeWrong}
 use Rattle.opcode.specs.Allowed.{read-11, read-12, read-13, read-1A, read-1B, read-1C, read-1D, read-35, read-36, read-38, read-39, read-6C, NeedsLength, write-2B, write-34, write-35, write-38}
-use Rattle.opcode.specs.Numbers.{OneByte, write-11, write-12, write-1A, write-1B, write-1C, write-1D, write-36, write-39, write-6C, WriteSize, ReadSize, SizeRight, Carried, LacksLength, Merges, CommandNumber}
+use Rattle.opcode.specs.Numbers.{OneByte, write-11, write-12, write-1A, write-1B, write-1C, write-1D, write-36, write-39, write-6C, WriteSize, ReadSize, SizeRight, Carried, LacksLength, Merges}
 use Rattle.wire.proofs.Tests.{told, Rows, past-less}
 use Rattle.opcode.proofs.Accepts.Fields.{All, all-fault, fault-all}
 use Rattle.opcode.proofs.Accepts.Commands.{_&_, of-each, of-carried}
@@ -24,8 +24,19 @@ use Rattle.opcode.proofs.Accepts.Passes.{writeSizeWrong}
 use Rattle.opcode.proofs.Accepts.Reads.{nothing-right}
 use Rattle.opcode.proofs.Accepts.Writes.{needs-variable}
 use Rattle.opcode.proofs.Accepts.Varying.{points-passes, words-long, gains-sized}
-use Rattle.opcode.proofs.Faults.{Apart, judged}
+use Rattle.opcode.proofs.Faults.{Past, Apart, judged}
 use Rattle.opcode.proofs.Faults.Varying.{smooth-long, gains-long, even, some, shape-long, lists-long}
+
+-- Rule 4.1, 7 to 11, of the number given, 0 for none: what each says, and what is known where it was passed. 10 is `Located` (Faults).
+pub record CommandNumber (op o : ℕ) (d : List ℕ) (number : ℕ) : Type 0 where
+  pub seven : number ≡ 7 → Carried op → ⊥
+  pub past-seven : Past 7 number → Carried op
+  pub eight : number ≡ 8 → LacksLength op o
+  pub past-eight : Past 8 number → LacksLength op o → ⊥
+  pub nine : number ≡ 9 → SizeRight op o d → ⊥
+  pub past-nine : Past 9 number → SizeRight op o d
+  pub eleven : number ≡ 11 → Merges op o d
+  pub past-eleven : Past 11 number → Merges op o d → ⊥
 
 -- ---- 7: the eighteen, in the order of `commands`.
 

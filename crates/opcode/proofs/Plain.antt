@@ -4,8 +4,8 @@ use mathlib.Core.Path.{_≡_, refl}
 use mathlib.Core.Logic.{_⊎_, ⊎-elim}
 use mathlib.Core.List.{List}
 use native.Mathlib.Omega.{arith}
-use Rattle.opcode.specs.Numbers.{CommandNumber}
-use Rattle.opcode.specs.Faults.{Located}
+use Rattle.opcode.proofs.Numbers.{CommandNumber}
+use Rattle.opcode.proofs.Faults.{Located}
 use Rattle.opcode.specs.Plain.{Pinned, CommandRefuses, not-carried, lacks-length, wrong-size, out-of-range, merges}
 
 pub pinned : Pinned

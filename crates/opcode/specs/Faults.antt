@@ -6,7 +6,6 @@ use mathlib.Core.List.{List}
 use lib.ListN.{length}
 use Rattle.wire.specs.Numbers.{byteAt, wordAt, longAt}
 use Rattle.opcode.specs.Options.{isRead}
-use Rattle.opcode.specs.Allowed.{Allowed}
 
 -- A write's opcode; then the place of a field in its data, its number, and the least and the most that this may be: command by command, in packet
 -- order. Fields that take any number are left out, as they are never at fault.
@@ -93,12 +92,3 @@ pub record FirstFault (op o : ℕ) (d : List ℕ) (place : ℕ) : Type 0 where
   pub out : (value < least) ⊎ (most < value)
   pub inside : place < length d
   pub before : {j v low high : ℕ} → j < place → FieldOf op o d j v low high → (low ≤ v) × (v ≤ high)
-
--- Rule 4.6, of a refusal's number, 0 for none, and its place: 10 has the place of the first fault, and there is no other such place; any other number
--- has none. Where 10 is passed, so that nothing or a later number is given, every field is within its range; so it is of all data that is allowed.
-pub record Located (op o : ℕ) (d : List ℕ) (number place : ℕ) : Type 0 where
-  pub first : number ≡ 10 → FirstFault op o d place
-  pub only : number ≡ 10 → {k : ℕ} → FirstFault op o d k → k ≡ place
-  pub none : (number ≡ 10 → ⊥) → place ≡ 0
-  pub within : (number ≡ 0) ⊎ (10 < number) → {j v low high : ℕ} → FieldOf op o d j v low high → (low ≤ v) × (v ≤ high)
-  pub allowed : Allowed op o d → {j v low high : ℕ} → FieldOf op o d j v low high → (low ≤ v) × (v ≤ high)

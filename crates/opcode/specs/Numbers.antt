@@ -79,18 +79,3 @@ pub record Merges (op o : ℕ) (d : List ℕ) : Type 0 where
   pub write : isRead o ≡ 0
   pub update : op ≡ 0x39
   pub mode : byteAt d 0 ≡ 1
-
--- A number is passed where a later one is given, or none.
-abbrev pub Past : ℕ → ℕ → Type 0
-Past n number = (number ≡ 0) ⊎ (n < number)
-
--- Rule 4.1, 7 to 11, of the number given, 0 for none. 10 is `Located` (Faults).
-pub record CommandNumber (op o : ℕ) (d : List ℕ) (number : ℕ) : Type 0 where
-  pub seven : number ≡ 7 → Carried op → ⊥
-  pub past-seven : Past 7 number → Carried op
-  pub eight : number ≡ 8 → LacksLength op o
-  pub past-eight : Past 8 number → LacksLength op o → ⊥
-  pub nine : number ≡ 9 → SizeRight op o d → ⊥
-  pub past-nine : Past 9 number → SizeRight op o d
-  pub eleven : number ≡ 11 → Merges op o d
-  pub past-eleven : Past 11 number → Merges op o d → ⊥

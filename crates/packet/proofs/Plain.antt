@@ -15,8 +15,8 @@ use Rattle.wire.proofs.Plain.{Each, first-applies}
 use Rattle.wire.proofs.Tests.{Rows, first-rows, option-true}
 use Rattle.opcode.specs.Options.{optionsIn}
 use Rattle.opcode.specs.Judgement.{judgement}
-use Rattle.opcode.specs.Faults.{Located}
-use Rattle.opcode.specs.Numbers.{CommandNumber}
+use Rattle.opcode.proofs.Faults.{Located}
+use Rattle.opcode.proofs.Numbers.{CommandNumber}
 use Rattle.opcode.specs.Plain.{CommandRefuses, not-carried, lacks-length, wrong-size, out-of-range, merges}
 use Rattle.opcode.proofs.Plain.{command-passed}
 use Rattle.packet.specs.Frame.{headerOf, opcodeOf, optionsOf, dataOf, place, fields, announced}

@@ -6,8 +6,8 @@ use native.Mathlib.Omega.{arith}
 use lib.ListN.{length, getD}
 use Rattle.opcode.specs.Options.{optionsIn}
 use Rattle.opcode.specs.Judgement.{judgement, faultPlace}
-use Rattle.opcode.specs.Faults.{Located}
-use Rattle.opcode.specs.Numbers.{CommandNumber}
+use Rattle.opcode.proofs.Faults.{Located}
+use Rattle.opcode.proofs.Numbers.{CommandNumber}
 use Rattle.opcode.proofs.Faults.{located}
 use Rattle.opcode.proofs.Numbers.{command-number}
 use Rattle.packet.specs.Frame.{opcodeOf, optionsOf, dataOf}

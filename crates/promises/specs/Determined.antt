@@ -1,5 +1,6 @@
 -- For each entry: two outcomes (its answer, and every lent list at exit) that both meet its plain promise are equal. So who believes the plain promises need not believe the
--- definitions that the code is proved to equal. Lists that are lent as bytes are bytes (`Bytes`, `AllBytes`); nothing else is assumed.
+-- definitions that the code is proved to equal. Lists that are lent as bytes are bytes (`Bytes`, `AllBytes`, of a block on numbers the four of the row mark, `MarkBytes`), and measuring on bytes
+-- is lent a room of whole numbers, as it asks for; nothing else is assumed.
 use Prim.Native.Nat.{ℕ, _%_}
 use mathlib.Core.Path.{_≡_}
 use mathlib.Core.Bool.{Bool}
@@ -17,7 +18,7 @@ use Rattle.rows.specs.Plain.{«Pinned» as MarkNamed}
 use Rattle.rising.specs.Plain.{RisingPlain}
 use Rattle.controller.specs.State.{State, ResetOut}
 use Rattle.controller.specs.Step.{Out}
-use Rattle.controller.specs.Rows.{RowsPlain}
+use Rattle.controller.specs.Rows.{MarkBytes, RowsPlain}
 use Rattle.controller.specs.Plain.{StepPlain, ResetPlain, «Pinned» as StateNamed}
 use Rattle.controller8.specs.Bytes.{Lent, LentOut, LentReset}
 use Rattle.controller8.specs.Plain.{AllBytes, StepBytesPlain, ResetBytesPlain, «Pinned» as LentNamed}
@@ -49,7 +50,7 @@ pub record OnNumbers : Type 0 where
   pub reply : (r : List ℕ) (sum : Bool) (a b : ReplyAnswer) → ReplyPlain r sum a → ReplyPlain r sum b → a ≡ b
   pub rising : (lists : List ℕ) (m n : ℕ) → RisingPlain lists m → RisingPlain lists n → m ≡ n
   -- Rules 1.1 and 5.10, and 11.4.
-  pub packet : (p : List ℕ) → Bytes p → (s : State) (reply : List ℕ) (o q : Out) → Bytes (o .state .block) → Bytes (q .state .block)
+  pub packet : (p : List ℕ) → Bytes p → (s : State) (reply : List ℕ) (o q : Out) → MarkBytes (o .state .block) → MarkBytes (q .state .block)
       → StepPlain p s reply o → StepPlain p s reply q → o ≡ q
   pub reset : (s : State) (o q : ResetOut) → ResetPlain s o → ResetPlain s q → o ≡ q
   pub rows : (block : List ℕ) (status count lowest status′ count′ lowest′ : ℕ) → RowsPlain block status count lowest

@@ -75,7 +75,7 @@ pub record SplitC (colour start : ℕ) (pairs batch : List ℕ) (answer : ℕ) (
   pub packets : ℕ
   pub size : ℕ
   pub bits : answer ≡ status + 256 * packets + 4294967296 * size
-  pub small : (status < 256) × (packets < 16777216)
+  pub small : (status < 256) × (packets < 16777216) × (size < 4294967296)
   pub plain : SplitPlainBytes colour start pairs batch (record { status = status; packets = packets; bytes = size; batch = left })
 
 -- vermolgas_plan, rule 6.4: the same bits; and every lent list as it is left.
@@ -84,5 +84,5 @@ pub record PlanC (n : ℕ) (held wanted : List ℕ) (before : Sheets) (answer : 
   pub packets : ℕ
   pub size : ℕ
   pub bits : answer ≡ status + 256 * packets + 4294967296 * size
-  pub small : (status < 256) × (packets < 16777216)
+  pub small : (status < 256) × (packets < 16777216) × (size < 4294967296)
   pub plain : PlanBytesPlain n held wanted before (record { status = status; packets = packets; bytes = size; left = left })

@@ -54,7 +54,7 @@ returns c =
             packets = a .packets;
             size = a .bytes;
             bits = refl;
-            small = (omega arith, omega (arith, s));
+            small = (omega arith, omega (arith, s), omega (arith, s));
             plain = told .plain;
           };
       promise = told;

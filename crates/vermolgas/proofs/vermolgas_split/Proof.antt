@@ -39,7 +39,7 @@ returns c =
             packets = a .packets;
             size = a .bytes;
             bits = refl;
-            small = (omega arith, omega (arith, told .right .few));
+            small = (omega arith, omega (arith, told .right .few), omega (arith, told .right .few));
             plain = told .right .plain;
           };
       promise = told;
