@@ -25,9 +25,9 @@ use Rattle.opcode.specs.Options.{isRead}
 use Rattle.opcode.specs.Allowed.{WriteData}
 use Rattle.packet.specs.Points.{startOf, countOf}
 use Rattle.controller.specs.declared.mark.Fresh.{Fresh}
-use Rattle.controller.specs.Mark.{markAt, markBits, firstTouched, lastTouched, markAfter, markedBlock, RowsOut, rowsOut, rowsTold}
+use Rattle.controller.specs.Mark.{markAt, markBits, firstTouched, lastTouched, markAfter, marks, markedBlock, RowsOut, rowsOut, rowsTold}
 use Rattle.controller.specs.Demands.{RowsPromised}
-use Rattle.controller.specs.Internal.{Granted, MarkGranted, RowsNamed, RowsFresh}
+use Rattle.controller.specs.Internal.{Granted, MarkGranted, RowsNamed, freshOf, rowsWorkedOut, RowsFresh}
 use Rattle.controller.specs.Commands.{blockAfter, runsPast}
 use Rattle.controller.proofs.Bounds.{counts, write-data}
 use Rattle.controller.proofs.InRange.{settings-stay}
@@ -46,14 +46,23 @@ last-row {d} {block} g =
     let below : startOf d + countOf d - 1 < rowsAt block stagedShape * columnsAt block stagedShape = omega (arith, p .0, p .1) in
     div-lt-iff-lt-mul {k = columnsAt block stagedShape} (omega (arith, c .columns-some)) .1 below
 
+-- A result by its parts.
+fresh-by : (r : Fresh) {changes : Bool} {mark first end columns : ℕ} → r .changes ≡ changes → r .mark ≡ mark → r .first ≡ first → r .end ≡ end
+    → r .columns ≡ columns → r ≡ freshOf changes mark first end columns
+fresh-by r a b c d e = joined a b c d e
+  where
+    joined : {x x′ : Bool} {m m′ f f′ e e′ n n′ : ℕ} → x ≡ x′ → m ≡ m′ → f ≡ f′ → e ≡ e′ → n ≡ n′ → freshOf x m f e n ≡ freshOf x′ m′ f′ e′ n′
+    joined a b c d e = cc
+
 pub touched-fresh : {d block : List ℕ} {r : Fresh} → MarkGranted 0x34 d block → RowsNamed d block r → RowsFresh 0x34 d block r
-unfolding markAfter
+unfolding markAfter rowsWorkedOut
 touched-fresh {d} {block} {r} g n =
     let c = counts block (g .settings) in
     let columns : ℕ = columnsAt block stagedShape in
     let rows : ℕ = rowsAt block stagedShape in
     let last = last-row g in
     record {
+      outcome = fresh-by r (n .changes) (n .mark) (n .first) (n .end) (n .columns);
       changes = n .changes;
       few = omega (arith, n .end, last, c .rows);
       room = rw (n .columns, n .end) (omega (arith, mul-le-mul-left columns last, c .points));
@@ -86,11 +95,12 @@ all-fresh columns rows staged live few =
 pub shape-fresh : {d block : List ℕ} (r : Fresh) → settingsRight block ≡ true
     → (r .changes ≡ true) × (r .mark ≡ 0) × (r .first ≡ 0) × (r .end ≡ rowsAt block stagedShape) × (r .columns ≡ columnsAt block stagedShape)
     → RowsFresh 0x35 d block r
-unfolding markAfter
+unfolding markAfter rowsWorkedOut
 shape-fresh {d} {block} r right e =
     let b = counts block right in
     let all : rowsAt block stagedShape - 0 ≡ rowsAt block stagedShape = omega arith in
     record {
+      outcome = fresh-by r (e .0) (e .1) (e .2) (e .3) (e .4);
       changes = e .0;
       few = omega (arith, e .3, b .rows);
       room = rw (e .4, e .3) (omega (arith, b .points));
@@ -102,10 +112,12 @@ shape-fresh {d} {block} r right e =
 
 pub rest-fresh : (op : ℕ) (d block : List ℕ) (r : Fresh) → (op ≡ 0x34 → ⊥) → (op ≡ 0x35 → ⊥)
     → (r .changes ≡ (eqb op 0x36 && eqb (byteAt d 0) 1)) × (r .mark ≡ 0) × (r .first ≡ 0) × (r .end ≡ 0) × (r .columns ≡ 0) → RowsFresh op d block r
-unfolding markAfter bitsOf refreshed
+unfolding markAfter rowsWorkedOut bitsOf refreshed
 rest-fresh op d block r a b e =
+    let same : r .changes ≡ marks op d = rw (e .0, ne-eqb op 0x34 a, ne-eqb op 0x35 b) in
     record {
-      changes = rw (e .0, ne-eqb op 0x34 a, ne-eqb op 0x35 b);
+      outcome = rw (ne-eqb op 0x34 a, ne-eqb op 0x35 b) (fresh-by r (e .0) (e .1) (e .2) (e .3) (e .4));
+      changes = same;
       few = omega (arith, e .3);
       room = rw (e .3) (omega arith);
       whole = λ z staged live. rw (ne-eqb op 0x34 a, ne-eqb op 0x35 b, e .1, e .2, e .3);

@@ -2,7 +2,7 @@
 -- its start and count fitting, and the block in range.
 use Prim.Native.Nat.{ℕ, _+_, _-_, _*_, _^_, _≤_, _<_}
 use mathlib.Core.Path.{_≡_}
-use mathlib.Core.Bool.{Bool, true, false}
+use mathlib.Core.Bool.{Bool, true, false, cond}
 use mathlib.Core.List.{List}
 use lib.ListN.{length}
 use lib.Dec.{eqb}
@@ -83,8 +83,22 @@ pub record RowsNamed (d block : List ℕ) (r : Fresh) : Type 0 where
   pub end : r .end ≡ lastTouched (columnsAt block stagedShape) d + 1
   pub columns : r .columns ≡ columnsAt block stagedShape
 
--- The rows that any accepted write works out, within any map: put into the mark to begin with, they give the mark after it.
+-- The rows that a write works out, and the mark into which they are put: of 34h the rows of its
+-- points and the mark as it lies; of 35h all rows of the shape, and of any other none, with no bit
+-- set before.
+abbrev pub freshOf : Bool → ℕ → ℕ → ℕ → ℕ → Fresh
+freshOf changes mark first end columns = record { changes = changes; mark = mark; first = first; end = end; columns = columns }
+
+unfoldable pub rowsWorkedOut : ℕ → List ℕ → List ℕ → Fresh
+rowsWorkedOut op d block =
+    cond (eqb op 0x34)
+    (freshOf true (markAt block) (firstTouched (columnsAt block stagedShape) d) (lastTouched (columnsAt block stagedShape) d + 1) (columnsAt block stagedShape))
+    (cond (eqb op 0x35) (freshOf true 0 0 (rowsAt block stagedShape) (columnsAt block stagedShape)) (freshOf (marks op d) 0 0 0 0))
+
+-- These rows, of any accepted write; they lie within any map, and put into the mark to begin with
+-- they give the mark after it.
 pub record RowsFresh (op : ℕ) (d block : List ℕ) (r : Fresh) : Type 0 where
+  pub outcome : r ≡ rowsWorkedOut op d block
   pub changes : r .changes ≡ marks op d
   pub few : r .end ≤ markRows
   pub room : 2 * (r .columns * r .end) ≤ mapSize

@@ -2,19 +2,17 @@
 -- read and a write may carry.
 use Prim.Native.Nat.{ℕ, _+_, _*_, _≤_}
 use mathlib.Core.Path.{_≡_, _∙_}
-use mathlib.Core.Bool.{cond, _||_}
 use mathlib.Core.List.{List, []}
 use native.Mathlib.Omega.{arith}
 use borrow.Author.Tests.{ne-eqb}
 use lib.ListN.{length}
-use lib.Dec.{eqb}
 use Rattle.wire.specs.Numbers.{byteAt}
 use Rattle.opcode.specs.Options.{isRead}
 use Rattle.opcode.specs.Commands.{commandOf, fixed}
 use Rattle.opcode.specs.Allowed.{SendsNothing, ReadData, WriteData, Allowed}
 use Rattle.settings.specs.Layout.{pwmPlace, pwmSize, settingsEnd}
 use Rattle.settings.specs.Layout.{placeOf}
-use Rattle.settings.specs.Internal.{KeptSize}
+use Rattle.settings.specs.Internal.{sizeByOpcode, KeptSize}
 use Rattle.opcode.proofs.Accepts.Commands.{of-carried}
 
 -- A fixed command's place and sizes, for data that carries so many bytes behind the pin or port.
@@ -91,12 +89,8 @@ pub write-long : {op o : ℕ} {d : List ℕ} → Allowed op o d → isRead o ≡
 write-long (Allowed.asks h r) e m = absurd (omega arith)
 write-long (Allowed.sets h w l) e m = write-sized w m .long
 
--- The sizes by opcode, as the code has them, and the list of commands walked once.
-abbrev sizeIn : ℕ → ℕ
-sizeIn op =
-    cond (eqb op 0x13) 2
-    (cond (eqb op 0x2B || eqb op 0x34 || eqb op 0x35 || eqb op 0x38) 0 (cond (eqb op 0x60) 3 (cond (eqb op 0x65) 6 (cond (eqb op 0x6D) 10 1))))
-
-pub kept-size : (op r : ℕ) → r ≡ sizeIn op → r ≤ 10 → KeptSize op r
-unfolding commandOf
-kept-size op r e few = record { carried = λ h. e ∙ of-carried (λ op. sizeIn op ≡ commandOf op .back) (omega arith) op h; few = few }
+-- The sizes by opcode, and the list of commands walked once.
+pub kept-size : (op r : ℕ) → r ≡ sizeByOpcode op → r ≤ 10 → KeptSize op r
+unfolding commandOf sizeByOpcode
+kept-size op r e few =
+    record { outcome = e; carried = λ h. e ∙ of-carried (λ op. sizeByOpcode op ≡ commandOf op .back) (omega arith) op h; few = few }

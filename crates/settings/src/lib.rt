@@ -232,7 +232,7 @@ pub fn place_of(opcode: usize, data: &[u8]) -> usize
     }
 }
 
-// How many bytes a command of a fixed size has at its place; 0 for those whose size varies. Of an opcode that is not carried it says nothing.
+// How many bytes a command of a fixed size has at its place; 0 for those whose size varies, and 1 for a number that is no opcode.
 pub fn size_of(opcode: usize) -> usize
     ensures { λ r. ⌜ KeptSize opcode r ⌝ }
 {
