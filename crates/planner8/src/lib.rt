@@ -129,7 +129,7 @@ fn write(wanted: &[u8], plan: &mut [u8], choices: &[u8], batch: &mut [u8]) -> An
     Answer {
         status: 0,
         packets,
-        bytes: packets,
+        bytes,
     }
 }
 
