@@ -258,12 +258,20 @@ fn present(bytes: &[u8]) {
         print_refusal(r.refusal());
         return;
     };
+    print_command(opcode, options, at, size);
+    make_again(opcode, options, &bytes[at..at + size]);
+}
+
+fn print_command(opcode: u8, options: u8, at: usize, size: usize) {
     print_byte(b"\n  opcode ", opcode);
     print_byte(b", options ", options);
     print_number(b", data at ", at as u64);
     print_number(b", size ", size as u64);
+}
+
+fn make_again(opcode: u8, options: u8, data: &[u8]) {
     let mut buffer = [0u8; 512];
-    let made = packet::make(opcode as u16, options, &bytes[at..at + size], &mut buffer);
+    let made = packet::make(opcode as u16, options, data, &mut buffer);
     print_number(b"\n  made again, status ", made.why.number as u64);
     io::write_all(1, b":");
     show::bytes(&buffer, made.size);

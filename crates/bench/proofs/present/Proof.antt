@@ -43,77 +43,23 @@ print-refusal-requires c κs = search needs
 returns : tie.Need-returns
 returns c = search needs
 
-slice-aggregate-print-byte : tie.Need-slice-aggregate-print-byte
-slice-aggregate-print-byte c = search needs
+print-command-requires : tie.Need-print-command-requires
+print-command-requires c κs = search needs
 
-print-byte-requires : tie.Need-print-byte-requires
-print-byte-requires c κs = search needs
+add-make-again : tie.Need-add-make-again
+add-make-again c = omega (arith, inside (c .before))
 
-slice-aggregate-print-byte-2 : tie.Need-slice-aggregate-print-byte-2
-slice-aggregate-print-byte-2 c = search needs
+sub-make-again : tie.Need-sub-make-again
+sub-make-again c = search needs
 
-print-byte-requires-2 : tie.Need-print-byte-requires-2
-print-byte-requires-2 c κs = search needs
+part-make-again-start : tie.Need-part-make-again-start
+part-make-again-start c = search needs
 
-slice-aggregate-print-number : tie.Need-slice-aggregate-print-number
-slice-aggregate-print-number c = search needs
+part-make-again-end : tie.Need-part-make-again-end
+part-make-again-end c = omega (arith, inside (c .before))
 
-print-number-requires : tie.Need-print-number-requires
-print-number-requires c κs = search needs
-
-slice-aggregate-print-number-2 : tie.Need-slice-aggregate-print-number-2
-slice-aggregate-print-number-2 c = search needs
-
-print-number-requires-2 : tie.Need-print-number-requires-2
-print-number-requires-2 c κs = search needs
-
-cast-make : tie.Need-cast-make
-cast-make c = search needs
-
-add-make : tie.Need-add-make
-add-make c = omega (arith, inside (c .before .before .before .before .before .before .before .before))
-
-sub-make : tie.Need-sub-make
-sub-make c = search needs
-
-part-make-start : tie.Need-part-make-start
-part-make-start c = search needs
-
-part-make-end : tie.Need-part-make-end
-part-make-end c = omega (arith, inside (c .before .before .before .before .before .before .before .before))
-
-slice-aggregate-make : tie.Need-slice-aggregate-make
-slice-aggregate-make c = search needs
-
-make-requires : tie.Need-make-requires
-make-requires c κs = search needs
-
-slice-aggregate-print-number-3 : tie.Need-slice-aggregate-print-number-3
-slice-aggregate-print-number-3 c = search needs
-
-cast-print-number : tie.Need-cast-print-number
-cast-print-number c = search needs
-
-print-number-requires-3 : tie.Need-print-number-requires-3
-print-number-requires-3 c κs = search needs
-
-slice-aggregate-write-all-2 : tie.Need-slice-aggregate-write-all-2
-slice-aggregate-write-all-2 c = search needs
-
-write-all-requires-2 : tie.Need-write-all-requires-2
-write-all-requires-2 c κs = search needs
-
-slice-aggregate-bytes : tie.Need-slice-aggregate-bytes
-slice-aggregate-bytes c = search needs
-
-bytes-requires-2 : tie.Need-bytes-requires-2
-bytes-requires-2 c κs = search needs
-
-slice-aggregate-write-all-3 : tie.Need-slice-aggregate-write-all-3
-slice-aggregate-write-all-3 c = search needs
-
-write-all-requires-3 : tie.Need-write-all-requires-3
-write-all-requires-3 c κs = search needs
+make-again-requires : tie.Need-make-again-requires
+make-again-requires c κs = search needs
 
 returns-2 : tie.Need-returns-2
 returns-2 c = search needs
@@ -131,28 +77,10 @@ present-spec =
     refusal-requires
     print-refusal-requires
     returns
-    slice-aggregate-print-byte
-    print-byte-requires
-    slice-aggregate-print-byte-2
-    print-byte-requires-2
-    slice-aggregate-print-number
-    print-number-requires
-    slice-aggregate-print-number-2
-    print-number-requires-2
-    cast-make
-    add-make
-    sub-make
-    part-make-start
-    part-make-end
-    slice-aggregate-make
-    make-requires
-    slice-aggregate-print-number-3
-    cast-print-number
-    print-number-requires-3
-    slice-aggregate-write-all-2
-    write-all-requires-2
-    slice-aggregate-bytes
-    bytes-requires-2
-    slice-aggregate-write-all-3
-    write-all-requires-3
+    print-command-requires
+    add-make-again
+    sub-make-again
+    part-make-again-start
+    part-make-again-end
+    make-again-requires
     returns-2)
