@@ -1,14 +1,53 @@
--- Rules 9.2 to 9.4: the plain promise leaves one text and one end state for a file.
-use Prim.Native.Nat.{ℕ, _+_}
+-- The promise of a window leaves one outcome; and, rules 9.2 to 9.4, the plain promise one text and one end state for a file.
+use Prim.Native.Nat.{ℕ, _+_, _<_}
 use mathlib.Core.Path.{_≡_, refl, sym, ap, subst, _∙_}
 use mathlib.Core.List.{List, [], _∷_, _++_}
+use mathlib.Core.Bool.{Bool, true, false}
+use mathlib.Core.Logic.{inl, inr}
 use native.Mathlib.Omega.{arith}
 use lib.ListN.{length}
 use lib.Seq.{ext-getD}
 use Rattle.text.proofs.Determined.{decimal-determined, hex-determined}
 use Rattle.controller.specs.State.{State, resetState}
 use Rattle.records.proofs.File.{file-read}
+use Rattle.playback.specs.declared.Progress.{Progress}
+use Rattle.playback.specs.Windows.{begun, roomsRight, Going, going, Turns, stops, goes, Refused, WindowReplayed}
+use Rattle.playback.proofs.Turns.{roomy, not-roomy}
 use Rattle.playback.specs.Plain.{Fresh, Says, Recounts, Closes, Printed}
+
+-- ---- A window.
+
+turns-one : {window : List ℕ} {g a b : Going} → Turns window g a → Turns window g b → a ≡ b
+turns-one (stops x) (stops y) = refl
+turns-one (stops (inl x)) (goes l r n y) = absurd (omega arith)
+turns-one (stops (inr (inl x))) (goes l r n y) = absurd (omega arith)
+turns-one (stops (inr (inr x))) (goes l r n y) = absurd (omega arith)
+turns-one (goes l r n x) (stops (inl y)) = absurd (omega arith)
+turns-one (goes l r n x) (stops (inr (inl y))) = absurd (omega arith)
+turns-one (goes l r n x) (stops (inr (inr y))) = absurd (omega arith)
+turns-one (goes l r n x) (goes l' r' n' y) = turns-one x y
+
+refused-is : {from p : Progress} {kept kept' reply reply' out out' : List ℕ} {s s' : State} → Refused from kept s reply out p kept' s' reply' out'
+    → going p kept' s' reply' out' ≡ going (begun from) kept s reply out
+refused-is {from} {p} {kept} {kept'} {reply} {reply'} {out} {out'} {s} {s'} r =
+    ap (λ (x : Progress). going x kept' s' reply' out') (r .progress-same)
+    ∙ ap (λ (x : List ℕ). going (begun from) x s' reply' out') (r .kept-same)
+    ∙ ap (λ (x : State). going (begun from) kept x reply' out') (r .state-same)
+    ∙ ap (λ (x : List ℕ). going (begun from) kept s x out') (r .reply-same)
+    ∙ ap (λ (x : List ℕ). going (begun from) kept s reply x) (r .out-same)
+
+pub window-determined : {window kept reply out : List ℕ} {from p q : Progress} {s t u : State} {kept' kept'' reply' reply'' out' out'' : List ℕ}
+    → WindowReplayed window from kept s reply out p kept' t reply' out' → WindowReplayed window from kept s reply out q kept'' u reply'' out''
+    → going p kept' t reply' out' ≡ going q kept'' u reply'' out''
+window-determined {kept = kept} {reply = reply} {from = from} {p = p} {q = q} {t = t} {u = u} {kept' = k} {kept'' = l} {reply' = r} {reply'' = v} {out' = o} {out'' = w} x y = go (roomsRight kept reply (from .have)) refl
+  where
+    go : (b : Bool) → roomsRight kept reply (from .have) ≡ b → going p k t r o ≡ going q l u v w
+    go true e = let rooms = roomy kept reply (from .have) e in turns-one (x .turns rooms) (y .turns rooms)
+    go false e =
+        let short = not-roomy kept reply (from .have) e in
+        refused-is (x .refused short) ∙ sym (refused-is (y .refused short))
+
+-- ---- A file.
 
 fresh-one : {a b : List ℕ} → Fresh a → Fresh b → a ≡ b
 fresh-one {a} {b} x y = ext-getD 0 a b (x .long ∙ sym (y .long)) (λ k lt. x .zeros k ∙ sym (y .zeros k))

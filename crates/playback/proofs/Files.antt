@@ -61,7 +61,7 @@ so-far : {kept bytes text : List ℕ} {p : Progress} {kept' : List ℕ} {s first
     → So first bytes text p kept' s
 unfolding fileRun lines taken
 so-far {kept} {first = first} Called.none = record { stands = begins kept first; printed = refl; formed = Formed.none }
-so-far {first = first} (Called.next {bytes} {text} {window} {reply} {out} {out'} {p} {q} {kept'} {kept''} {s'} {s''} c w) =
+so-far {first = first} (Called.next {bytes} {text} {window} {reply} {reply'} {out} {out'} {p} {q} {kept'} {kept''} {s'} {s''} c w) =
     let before = so-far c in
     let st = before .stands in
     let e : q .at - 0 ≡ q .at = omega arith in
@@ -90,9 +90,9 @@ none-behind a b e = omega (arith, ap (λ (l : List ℕ). length l) e, length-app
 
 -- A call that takes nothing has put nothing and counted nothing, and so the output was full before it.
 moved : {first : State} {bytes text kept : List ℕ} {p : Progress} {s : State} → So first bytes text p kept s
-    → {window reply out kept' out' : List ℕ} {q : Progress} {s' : State} → WindowReplayed window p kept s reply out q kept' s' out'
+    → {window reply out kept' reply' out' : List ℕ} {q : Progress} {s' : State} → WindowReplayed window p kept s reply out q kept' s' reply' out'
     → p .have ≤ 65537 → 515 ≤ length kept → 512 ≤ length reply → 1578 ≤ length out → p .number < 18446744073709551615 → 0 < length window → 0 < q .at
-moved {first} {bytes} {text} {kept} {p} {s} x {window} {reply} {out} {kept'} {out'} {q} {s'} w most a b d few some =
+moved {first} {bytes} {text} {kept} {p} {s} x {window} {reply} {out} {kept'} {reply'} {out'} {q} {s'} w most a b d few some =
     elim (decLt 0 (q .at)) [
       | yes h ↦ h
       | no h ↦

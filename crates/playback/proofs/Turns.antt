@@ -20,12 +20,12 @@ use Rattle.controller.proofs.Bounds.{placed-number}
 use Rattle.controller.proofs.ReadBack.{size-small}
 use Rattle.records.specs.declared.Taken.{Taken}
 use Rattle.records.specs.Session.{Run, taken}
-use Rattle.records.specs.Windows.{mostRecord, part, found, Follows, Stepped, «Stands» as ReaderStands}
+use Rattle.records.specs.Windows.{mostRecord, part, found, nextTaken, Follows, Stepped, «Stands» as ReaderStands}
 use Rattle.records.proofs.Runs.{taken-append}
 use Rattle.playback.specs.declared.Progress.{Progress}
 use Rattle.playback.specs.Replay.{replyBuffer, line, lineOf, lines, stateAfterRecords, Formed}
-use Rattle.playback.specs.Windows.{lineRoom, mostRecords, progress, begun, Stands, Replayed, Full, hasRoom, Roomy, roomsRight}
-use Rattle.playback.specs.Windows.{WindowReplayed, Carries, Answered, Turned}
+use Rattle.playback.specs.Windows.{lineRoom, mostRecords, progress, begun, Stands, Followed, Replayed, Full, hasRoom, Roomy, roomsRight}
+use Rattle.playback.specs.Windows.{WindowReplayed, Carries, Answered, Turned, Going, going, readOn, answerOf, turnBy, turnOf, Turns, stops, goes}
 use Rattle.playback.proofs.Lines.{state-snoc, lines-snoc, front-line, front-state, line-formed, formed-append, puts-behind}
 
 -- ---- Parts of a window.
@@ -96,11 +96,12 @@ pub answer-done : {packet : List ℕ} {q p : Progress} {s s' : State} {reply rep
     → out status fault size s' reply' ≡ step packet s reply → Puts (q .size) (line (q .number + 1) status (take size reply')) buffer buffer' (p .size)
     → p .size ≤ q .size + lineRoom → Decimal (q .number + 1) (decimal (q .number + 1)) → Decimal status (decimal status)
     → Hex (take size reply') (hex (take size reply')) → p .number ≡ q .number + 1 → p .at ≡ q .at → p .marked ≡ q .marked → p .have ≡ q .have
-    → Answered packet q s reply buffer p s' buffer'
+    → Answered packet q s reply buffer p s' reply' buffer'
 answer-done {packet} {q} {p} {s} {s'} {reply} {reply'} {buffer} {buffer'} {status} {fault} {size} e put fits a b c number at marked have =
     let small : status ≤ 12 = rw (ap (λ (o : Out). o .status) e) (status-small packet s reply) in
     record {
       state = ap (λ (o : Out). o .state) e;
+      buffer = ap (λ (o : Out). o .reply) e;
       put = subst (λ (o : Out). Puts (q .size) (lineOf (q .number + 1) o) buffer buffer' (p .size)) e put;
       formed = subst (λ (o : Out). Formed (q .number) (lineOf (q .number + 1) o) (q .number + 1)) e
           (line-formed (q .number) status (take size reply') a b small c);
@@ -141,8 +142,8 @@ module _ (window : List ℕ) (p : Progress) (kept : List ℕ) (s : State) (out :
       }
 
   -- One did.
-  module _ (reply : List ℕ) (room : 512 ≤ length reply) (some : t .place ≡ 0 → ⊥) (q : Progress) (s' : State) (out' : List ℕ)
-      (a : Answered (found t window kept') (readTo p t) s reply out q s' out') where
+  module _ (reply : List ℕ) (room : 512 ≤ length reply) (some : t .place ≡ 0 → ⊥) (q : Progress) (s' : State) (reply' out' : List ℕ)
+      (a : Answered (found t window kept') (readTo p t) s reply out q s' reply' out') where
     pub turn-one : Replayed window p kept s out q kept' s' out'
     turn-one =
         record {
@@ -211,11 +212,47 @@ reply-fits packet s reply {s'} {reply'} {status} {fault} {size} e =
 
 -- ---- The promise of a turn.
 
-pub turned-none : (window : List ℕ) (p : Progress) (kept : List ℕ) (s : State) (out : List ℕ) (t : Taken) (kept' : List ℕ)
+-- A step of the reader is that of the definition.
+by-step : (window : List ℕ) (g : Going) (t : Taken) (kept' : List ℕ) → Stepped window (g .now .at) (g .now .marked) (g .now .have) (g .kept) t kept'
+    → turnBy window g t kept' ≡ turnOf window g
+unfolding turnOf
+by-step window g t kept' step =
+    ap (λ (x : Taken). turnBy window g x kept') (step .answer)
+    ∙ ap (λ (k : List ℕ). turnBy window g (nextTaken window (g .now .at) (g .now .marked) (g .now .have) (g .kept)) k) (step .room)
+
+outcome-none : (window : List ℕ) (g : Going) (t : Taken) (kept' : List ℕ) → Stepped window (g .now .at) (g .now .marked) (g .now .have) (g .kept) t kept'
+    → t .place ≡ 0 → readOn g t kept' ≡ turnOf window g
+unfolding turnBy
+outcome-none window g t kept' step none = rw (eq-eqb (t .place) 0 none) at (by-step window g t kept' step)
+
+progress-is : (q : Progress) {at size marked number have : ℕ} → q .at ≡ at → q .size ≡ size → q .marked ≡ marked → q .number ≡ number → q .have ≡ have
+    → q ≡ progress at size marked number have
+progress-is q {at} {size} {marked} {number} {have} a z m n h =
+    ap (λ (x : ℕ). progress x (q .size) (q .marked) (q .number) (q .have)) a
+    ∙ ap (λ (x : ℕ). progress at x (q .marked) (q .number) (q .have)) z
+    ∙ ap (λ (x : ℕ). progress at size x (q .number) (q .have)) m
+    ∙ ap (λ (x : ℕ). progress at size marked x (q .have)) n
+    ∙ ap (λ (x : ℕ). progress at size marked number x) h
+
+answer-is : (packet : List ℕ) (g : Going) (q : Progress) (s' : State) (reply' out' : List ℕ)
+    → Answered packet (g .now) (g .state) (g .reply) (g .out) q s' reply' out' → going q (g .kept) s' reply' out' ≡ answerOf packet g
+answer-is packet g q s' reply' out' a =
+    ap (λ (x : Progress). going x (g .kept) s' reply' out') (progress-is q (a .at) (a .put .ends) (a .marked) (a .number) (a .have))
+    ∙ ap (λ (x : State). going (answerOf packet g .now) (g .kept) x reply' out') (a .state)
+    ∙ ap (λ (x : List ℕ). going (answerOf packet g .now) (g .kept) (answerOf packet g .state) x out') (a .buffer)
+    ∙ ap (λ (x : List ℕ). going (answerOf packet g .now) (g .kept) (answerOf packet g .state) (answerOf packet g .reply) x) (a .put .exits)
+
+outcome-one : (window : List ℕ) (g : Going) (t : Taken) (kept' : List ℕ) → Stepped window (g .now .at) (g .now .marked) (g .now .have) (g .kept) t kept'
+    → (t .place ≡ 0 → ⊥) → answerOf (found t window kept') (readOn g t kept') ≡ turnOf window g
+unfolding turnBy
+outcome-one window g t kept' step some = rw (ne-eqb (t .place) 0 some) at (by-step window g t kept' step)
+
+pub turned-none : (window : List ℕ) (p : Progress) (kept : List ℕ) (s : State) (reply out : List ℕ) (t : Taken) (kept' : List ℕ)
     → Stepped window (p .at) (p .marked) (p .have) kept t kept' → t .place ≡ 0 → p .size + lineRoom ≤ length out
-    → Turned window p kept s out (readTo p t) kept' s out
-turned-none window p kept s out t kept' step none room =
+    → Turned window p kept s reply out (readTo p t) kept' s reply out
+turned-none window p kept s reply out t kept' step none room =
     record {
+      outcome = outcome-none window (going p kept s reply out) t kept' step none;
       replayed = turn-none window p kept s out t kept' (step .follows) none;
       some = step .within .some;
       inside = step .within .inside;
@@ -226,11 +263,14 @@ turned-none window p kept s out t kept' step none room =
 turned-one : (window : List ℕ) (p : Progress) (kept : List ℕ) (s : State) (out : List ℕ) (t : Taken) (kept' : List ℕ)
     → Stepped window (p .at) (p .marked) (p .have) kept t kept' → (t .place ≡ 0 → ⊥) → p .size + lineRoom ≤ length out
     → (packet reply : List ℕ) → 512 ≤ length reply → packet ≡ found t window kept'
-    → (q : Progress) (s' : State) (out' : List ℕ) → Answered packet (readTo p t) s reply out q s' out' → Turned window p kept s out q kept' s' out'
-turned-one window p kept s out t kept' step some room packet reply long e q s' out' a =
-    let b = subst (λ (x : List ℕ). Answered x (readTo p t) s reply out q s' out') e a in
+    → (q : Progress) (s' : State) (reply' out' : List ℕ) → Answered packet (readTo p t) s reply out q s' reply' out'
+    → Turned window p kept s reply out q kept' s' reply' out'
+turned-one window p kept s out t kept' step some room packet reply long e q s' reply' out' a =
+    let b = subst (λ (x : List ℕ). Answered x (readTo p t) s reply out q s' reply' out') e a in
+    let g : Going = going p kept s reply out in
     record {
-      replayed = turn-one window p kept s out t kept' (step .follows) reply long some q s' out' b;
+      outcome = answer-is (found t window kept') (readOn g t kept') q s' reply' out' b ∙ outcome-one window g t kept' step some;
+      replayed = turn-one window p kept s out t kept' (step .follows) reply long some q s' reply' out' b;
       some = omega (arith, step .within .some, a .at);
       inside = omega (arith, step .within .inside, a .at);
       filled = omega (arith, a .fits);
@@ -239,19 +279,21 @@ turned-one window p kept s out t kept' step some room packet reply long e q s' o
 
 pub turned-window : (window : List ℕ) (p : Progress) (kept : List ℕ) (s : State) (out : List ℕ) (t : Taken) (kept' : List ℕ)
     → Stepped window (p .at) (p .marked) (p .have) kept t kept' → (t .place ≡ 0 → ⊥) → t .place ≡ 1 → p .size + lineRoom ≤ length out
-    → (reply : List ℕ) → 512 ≤ length reply → (q : Progress) (s' : State) (out' : List ℕ)
-    → Answered (take (t .end - t .start) (drop (t .start) window)) (readTo p t) s reply out q s' out' → Turned window p kept s out q kept' s' out'
-turned-window window p kept s out t kept' step some e room reply long q s' out' a =
+    → (reply : List ℕ) → 512 ≤ length reply → (q : Progress) (s' : State) (reply' out' : List ℕ)
+    → Answered (take (t .end - t .start) (drop (t .start) window)) (readTo p t) s reply out q s' reply' out'
+    → Turned window p kept s reply out q kept' s' reply' out'
+turned-window window p kept s out t kept' step some e room reply long q s' reply' out' a =
     let there : take (t .end - t .start) (drop (t .start) window) ≡ found t window kept' = rw (eq-eqb (t .place) 1 e) in
-    turned-one window p kept s out t kept' step some room (take (t .end - t .start) (drop (t .start) window)) reply long there q s' out' a
+    turned-one window p kept s out t kept' step some room (take (t .end - t .start) (drop (t .start) window)) reply long there q s' reply' out' a
 
 pub turned-kept : (window : List ℕ) (p : Progress) (kept : List ℕ) (s : State) (out : List ℕ) (t : Taken) (kept' : List ℕ)
     → Stepped window (p .at) (p .marked) (p .have) kept t kept' → (t .place ≡ 0 → ⊥) → (t .place ≡ 1 → ⊥) → p .size + lineRoom ≤ length out
-    → (reply : List ℕ) → 512 ≤ length reply → (q : Progress) (s' : State) (out' : List ℕ)
-    → Answered (take (t .end - t .start) (drop (t .start) kept')) (readTo p t) s reply out q s' out' → Turned window p kept s out q kept' s' out'
-turned-kept window p kept s out t kept' step some e room reply long q s' out' a =
+    → (reply : List ℕ) → 512 ≤ length reply → (q : Progress) (s' : State) (reply' out' : List ℕ)
+    → Answered (take (t .end - t .start) (drop (t .start) kept')) (readTo p t) s reply out q s' reply' out'
+    → Turned window p kept s reply out q kept' s' reply' out'
+turned-kept window p kept s out t kept' step some e room reply long q s' reply' out' a =
     let there : take (t .end - t .start) (drop (t .start) kept') ≡ found t window kept' = rw (ne-eqb (t .place) 1 e) in
-    turned-one window p kept s out t kept' step some room (take (t .end - t .start) (drop (t .start) kept')) reply long there q s' out' a
+    turned-one window p kept s out t kept' step some room (take (t .end - t .start) (drop (t .start) kept')) reply long there q s' reply' out' a
 
 -- ---- The loop over a window.
 
@@ -259,6 +301,7 @@ turned-kept window p kept s out t kept' step some e room reply long q s' out' a 
 pub record Loop (window : List ℕ) (from : Progress) (kept : List ℕ) (s : State) (reply out : List ℕ)
     (p : Progress) (kept' : List ℕ) (s' : State) (reply' out' : List ℕ) : Type 0 where
   pub replayed : Replayed window from kept s out p kept' s' out'
+  pub so-far : (h : Going) → Turns window (going p kept' s' reply' out') h → Turns window (going from kept s reply out) h
   pub forward : from .at ≤ p .at
   pub inside : p .at ≤ length window
   pub filled : p .size ≤ length out'
@@ -275,14 +318,14 @@ roomy kept reply have e =
       for-have = leb-true have 65537 (and-right (leb 515 (length kept) && leb 512 (length reply)) (leb have 65537) e);
     }
 
-not-roomy : (kept reply : List ℕ) (have : ℕ) → roomsRight kept reply have ≡ false → Roomy kept reply have → ⊥
+pub not-roomy : (kept reply : List ℕ) (have : ℕ) → roomsRight kept reply have ≡ false → Roomy kept reply have → ⊥
 not-roomy kept reply have e r =
     true≢false
     (sym (rw (le-leb 515 (length kept) (r .for-record), le-leb 512 (length reply) (r .for-reply), le-leb have 65537 (r .for-have)) refl) ∙ e)
 
 -- Rooms that are too short: nothing is taken.
 pub window-none : (window : List ℕ) (from : Progress) (kept : List ℕ) (s : State) (reply out : List ℕ) → roomsRight kept reply (from .have) ≡ false
-    → WindowReplayed window from kept s reply out (begun from) kept s out
+    → WindowReplayed window from kept s reply out (begun from) kept s reply out
 window-none window from kept s reply out wrong =
     record {
       replayed = replay-none window (begun from) kept s out;
@@ -290,7 +333,8 @@ window-none window from kept s reply out wrong =
       filled = omega arith;
       rest = λ r lt. absurd (not-roomy kept reply (from .have) wrong r);
       have-most = λ r. absurd (not-roomy kept reply (from .have) wrong r);
-      refused = λ n. record { progress-same = refl; kept-same = refl; state-same = refl; out-same = refl };
+      turns = λ r. absurd (not-roomy kept reply (from .have) wrong r);
+      refused = λ n. record { progress-same = refl; kept-same = refl; state-same = refl; reply-same = refl; out-same = refl };
     }
 
 pub loop-start : (window : List ℕ) (p : Progress) (kept : List ℕ) (s : State) (reply out : List ℕ) → p .at ≡ 0 → p .size ≡ 0 → p .have ≤ mostRecord
@@ -298,6 +342,7 @@ pub loop-start : (window : List ℕ) (p : Progress) (kept : List ℕ) (s : State
 loop-start window p kept s reply out a z most =
     record {
       replayed = replay-none window p kept s out;
+      so-far = λ h t. t;
       forward = omega arith;
       inside = omega arith;
       filled = omega arith;
@@ -308,11 +353,13 @@ loop-start window p kept s reply out a z most =
     }
 
 pub loop-turn : {window : List ℕ} {from p q : Progress} {kept kept' kept'' : List ℕ} {s s' s'' : State} {reply reply' reply'' : List ℕ}
-    {out out' out'' : List ℕ} → Loop window from kept s reply out p kept' s' reply' out' → Turned window p kept' s' out' q kept'' s'' out''
+    {out out' out'' : List ℕ} → Loop window from kept s reply out p kept' s' reply' out' → p .at < length window
+    → (p .size + lineRoom ≤ length out') × (p .number < mostRecords) → Turned window p kept' s' reply' out' q kept'' s'' reply'' out''
     → length kept'' ≡ length kept' → length reply'' ≡ length reply' → length out'' ≡ length out'
     → Loop window from kept s reply out q kept'' s'' reply'' out''
-loop-turn l t k r o =
+loop-turn {window} l left room t k r o =
     record {
+      so-far = λ h u. l .so-far h (goes left (room .0) (room .1) (subst (λ (x : Going). Turns window x h) (t .outcome) u));
       replayed = replay-on (l .forward) (omega (arith, t .some)) (l .replayed) (t .replayed);
       forward = omega (arith, l .forward, t .some);
       inside = t .inside;
@@ -337,7 +384,7 @@ room-false p out e = go (leb (p .size + lineRoom) (length out)) refl e
 
 pub window-all : {window : List ℕ} {from : Progress} {kept : List ℕ} {s : State} {reply out : List ℕ} {p : Progress} {kept' : List ℕ} {s' : State}
     {reply' out' : List ℕ} → Roomy kept reply (from .have) → Loop window (begun from) kept s reply out p kept' s' reply' out' → length window ≤ p .at
-    → WindowReplayed window from kept s reply out p kept' s' out'
+    → WindowReplayed window from kept s reply out p kept' s' reply' out'
 window-all rooms l all =
     record {
       replayed = l .replayed;
@@ -345,12 +392,13 @@ window-all rooms l all =
       filled = l .filled;
       rest = λ r lt. absurd (omega arith);
       have-most = λ r. l .have-most;
+      turns = λ r. l .so-far _ (stops (inl all));
       refused = λ n. absurd (n rooms);
     }
 
 pub window-full : {window : List ℕ} {from : Progress} {kept : List ℕ} {s : State} {reply out : List ℕ} {p : Progress} {kept' : List ℕ} {s' : State}
     {reply' out' : List ℕ} → Roomy kept reply (from .have) → Loop window (begun from) kept s reply out p kept' s' reply' out'
-    → hasRoom (p .size) (p .number) out' ≡ false → WindowReplayed window from kept s reply out p kept' s' out'
+    → hasRoom (p .size) (p .number) out' ≡ false → WindowReplayed window from kept s reply out p kept' s' reply' out'
 window-full {p = p} {out' = out'} rooms l full =
     record {
       replayed = l .replayed;
@@ -358,6 +406,7 @@ window-full {p = p} {out' = out'} rooms l full =
       filled = l .filled;
       rest = λ r lt. room-false p out' full;
       have-most = λ r. l .have-most;
+      turns = λ r. l .so-far _ (stops (inr (room-false p out' full)));
       refused = λ n. absurd (n rooms);
     }
 
@@ -394,7 +443,7 @@ carry-as {bytes} {from} {p} {q} {kept} {kept'} {s} {s'} m n h x =
     }
 
 pub carry-window : {window : List ℕ} {from : Progress} {kept : List ℕ} {s : State} {reply out : List ℕ} {p : Progress} {kept' : List ℕ} {s' : State}
-    {out' : List ℕ} → WindowReplayed window from kept s reply out p kept' s' out' → Carries (take (p .at) window) from kept s p kept' s'
+    {reply' out' : List ℕ} → WindowReplayed window from kept s reply out p kept' s' reply' out' → Carries (take (p .at) window) from kept s p kept' s'
 carry-window {window} {p = p} {kept' = kept'} {s' = s'} w =
     record {
       stands =

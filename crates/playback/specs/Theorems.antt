@@ -13,7 +13,7 @@ use Rattle.records.specs.Plain.{Marked, Splits}
 use Rattle.playback.specs.declared.Progress.{Progress}
 use Rattle.playback.specs.Replay.{replyBuffer, lineOf, notASession, replayText, endState, Formed}
 use Rattle.playback.specs.Plain.{Printed}
-use Rattle.playback.specs.Windows.{progress, WindowReplayed, closingText}
+use Rattle.playback.specs.Windows.{progress, WindowReplayed, going, closingText}
 
 -- Rule 9.6: the records of a file can be counted.
 abbrev pub Countable : List ℕ → Type 0
@@ -22,8 +22,8 @@ Countable file = (packets : List (List ℕ)) (rest : List ℕ) → Splits (drop 
 -- Rule 9.6: calls of `replay`, window after window, each with an output and a reply buffer of its own: the bytes that they took, and the text that they put.
 pub data Called (from : Progress) (kept : List ℕ) (s : State) : List ℕ → List ℕ → Progress → List ℕ → State → Type 0 where
   none : Called from kept s [] [] from kept s
-  next : {bytes text window reply out out' : List ℕ} {p q : Progress} {kept' kept'' : List ℕ} {s' s'' : State} → Called from kept s bytes text p kept' s'
-      → WindowReplayed window p kept' s' reply out q kept'' s'' out'
+  next : {bytes text window reply reply' out out' : List ℕ} {p q : Progress} {kept' kept'' : List ℕ} {s' s'' : State} → Called from kept s bytes text p kept' s'
+      → WindowReplayed window p kept' s' reply out q kept'' s'' reply' out'
       → Called from kept s (bytes ++ take (q .at) window) (text ++ take (q .size) out') q kept'' s''
 
 -- Rules 9.2 to 9.6: what they have put, and behind it what `finish` puts, is the text of the bytes that they took, and the state is their end state; each line has
@@ -32,7 +32,7 @@ pub record WholeText (bytes text : List ℕ) (p : Progress) (kept : List ℕ) (s
   pub printed : (out : List ℕ) → 50 ≤ length out → p .number < 18446744073709551615 → text ++ closingText p out ≡ replayText bytes
   pub state : s ≡ endState bytes
   pub formed : Formed 0 text (p .number)
-  pub moves : {window reply out kept' out' : List ℕ} {q : Progress} {s' : State} → WindowReplayed window p kept s reply out q kept' s' out'
+  pub moves : {window reply out kept' reply' out' : List ℕ} {q : Progress} {s' : State} → WindowReplayed window p kept s reply out q kept' s' reply' out'
       → p .have ≤ 65537 → 515 ≤ length kept → 512 ≤ length reply → 1578 ≤ length out → p .number < 18446744073709551615 → 0 < length window → 0 < q .at
 
 -- Rule 4.1: no record is refused by 1, each judged on the state that it gets.
@@ -73,6 +73,10 @@ cutExampleText =
     ∷ 101 ∷ 110 ∷ 100 ∷ 32 ∷ 50 ∷ 10 ∷ []
 
 pub record Theorems : Type 0 where
+  -- Rule 9.6: of one window, what is left and printed, and where a full output stops it.
+  pub window-determined : {window kept reply out : List ℕ} {from p q : Progress} {s t u : State} {kept' kept'' reply' reply'' out' out'' : List ℕ}
+      → WindowReplayed window from kept s reply out p kept' t reply' out' → WindowReplayed window from kept s reply out q kept'' u reply'' out''
+      → going p kept' t reply' out' ≡ going q kept'' u reply'' out''
   -- Rule 9.6: windows of any split, from the start of a file and from reset.
   pub any-split : {kept bytes text : List ℕ} {p : Progress} {kept' : List ℕ} {s : State}
       → Called (progress 0 0 0 0 0) kept resetState bytes text p kept' s → WholeText bytes text p kept' s

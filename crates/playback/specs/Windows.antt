@@ -5,12 +5,14 @@ use mathlib.Core.Logic.{_⊎_}
 use mathlib.Core.Bool.{Bool, cond, _&&_}
 use mathlib.Core.List.{List, [], _++_}
 use lib.ListN.{length}
-use lib.Dec.{leb, ltb}
+use lib.Dec.{eqb, leb, ltb}
+use lib.Seq.{sets}
 use Rattle.text.specs.Text.{Puts}
 use Rattle.controller.specs.State.{State, replyRoom}
 use Rattle.controller.specs.Step.{step}
 use Rattle.records.specs.Session.{Run, taken}
-use Rattle.records.specs.Windows.{keptSize, mostRecord, part, «Stands» as ReaderStands}
+use Rattle.records.specs.declared.Taken.{Taken}
+use Rattle.records.specs.Windows.{keptSize, mostRecord, part, nowhere, found, nextTaken, nextKept, «Stands» as ReaderStands}
 use Rattle.playback.specs.declared.Progress.{Progress}
 use Rattle.playback.specs.Replay.{lineOf, lines, stateAfterRecords, closing, Formed}
 
@@ -68,22 +70,67 @@ abbrev pub roomsRight : List ℕ → List ℕ → ℕ → Bool
 roomsRight kept reply have = leb keptSize (length kept) && leb replyRoom (length reply) && leb have mostRecord
 
 -- Rooms that are too short: nothing is taken, and all is as it was.
-pub record Refused (from : Progress) (kept : List ℕ) (s : State) (out : List ℕ) (p : Progress) (kept' : List ℕ) (s' : State) (out' : List ℕ) : Type 0 where
+pub record Refused (from : Progress) (kept : List ℕ) (s : State) (reply out : List ℕ)
+    (p : Progress) (kept' : List ℕ) (s' : State) (reply' out' : List ℕ) : Type 0 where
   pub progress-same : p ≡ begun from
   pub kept-same : kept' ≡ kept
   pub state-same : s' ≡ s
+  pub reply-same : reply' ≡ reply
   pub out-same : out' ≡ out
 
--- A window replayed: all of it, unless the output is full. Free are: where in the window a full output stops it; the reply buffer, which holds what replies
--- left there; the room behind the bytes kept; and, where the arguments stand for no run, what is printed and left.
+-- All that a replay carries and is lent, in the midst of a window.
+pub record Going : Type 0 where
+  pub now : Progress
+  pub kept : List ℕ
+  pub state : State
+  pub reply : List ℕ
+  pub out : List ℕ
+
+abbrev pub going : Progress → List ℕ → State → List ℕ → List ℕ → Going
+going now kept s reply out = record { now = now; kept = kept; state = s; reply = reply; out = out }
+
+-- The reader took some bytes.
+abbrev pub readOn : Going → Taken → List ℕ → Going
+readOn g t kept =
+    going (progress (t .at) (g .now .size) (t .marked) (g .now .number) (t .have)) kept (g .state) (g .reply) (g .out)
+
+-- Rule 9.2: a record's packet goes to the front end, which writes over the reply buffer, and its line stands behind what the output had.
+abbrev pub lineNow : List ℕ → Going → List ℕ
+lineNow packet g = lineOf (g .now .number + 1) (step packet (g .state) (g .reply))
+
+abbrev pub answerOf : List ℕ → Going → Going
+answerOf packet g =
+    going
+    (progress (g .now .at) (g .now .size + length (lineNow packet g)) (g .now .marked) (g .now .number + 1) (g .now .have))
+    (g .kept) (step packet (g .state) (g .reply) .state) (step packet (g .state) (g .reply) .reply)
+    (sets (g .out) (g .now .size) (lineNow packet g))
+
+-- One turn: a step of the reader, and the answer to a record that became whole by it.
+unfoldable pub turnBy : List ℕ → Going → Taken → List ℕ → Going
+turnBy window g t kept =
+    cond (eqb (t .place) nowhere) (readOn g t kept) (answerOf (found t window kept) (readOn g t kept))
+
+unfoldable pub turnOf : List ℕ → Going → Going
+turnOf window g =
+    turnBy window g (nextTaken window (g .now .at) (g .now .marked) (g .now .have) (g .kept))
+    (nextKept window (g .now .at) (g .now .marked) (g .now .have) (g .kept))
+
+-- Turn after turn, and it stops at the first place where the window is used up, the output has no room for another line, or the count of records is at its end.
+pub data Turns (window : List ℕ) : Going → Going → Type 0 where
+  stops : {g : Going} → (length window ≤ g .now .at) ⊎ Full (g .now) (g .out) → Turns window g g
+  goes : {g h : Going} → g .now .at < length window → g .now .size + 1578 ≤ length (g .out) → g .now .number < 18446744073709551615
+      → Turns window (turnOf window g) h → Turns window g h
+
+-- A window replayed: all of it, unless the output is full. `turns` and `refused` leave one outcome, whatever the arguments stand for.
 pub record WindowReplayed (window : List ℕ) (from : Progress) (kept : List ℕ) (s : State) (reply out : List ℕ)
-    (p : Progress) (kept' : List ℕ) (s' : State) (out' : List ℕ) : Type 0 where
+    (p : Progress) (kept' : List ℕ) (s' : State) (reply' out' : List ℕ) : Type 0 where
   pub replayed : Replayed window (begun from) kept s out p kept' s' out'
   pub inside : p .at ≤ length window
   pub filled : p .size ≤ length out'
   pub rest : Roomy kept reply (from .have) → p .at < length window → Full p out'
   pub have-most : Roomy kept reply (from .have) → p .have ≤ mostRecord
-  pub refused : (Roomy kept reply (from .have) → ⊥) → Refused from kept s out p kept' s' out'
+  pub turns : Roomy kept reply (from .have) → Turns window (going (begun from) kept s reply out) (going p kept' s' reply' out')
+  pub refused : (Roomy kept reply (from .have) → ⊥) → Refused from kept s reply out p kept' s' reply' out'
 
 -- Bytes have taken a replay on: whatever run, and from whatever state, what was carried stood for, what is carried now stands for that run with them.
 pub record Carries (bytes : List ℕ) (from : Progress) (kept : List ℕ) (s : State) (p : Progress) (kept' : List ℕ) (s' : State) : Type 0 where
@@ -104,8 +151,9 @@ closingText p out =
 -- ---- The steps of the code.
 
 -- One record's packet: to the front end, and its line behind what the output had.
-pub record Answered (packet : List ℕ) (q : Progress) (s : State) (reply out : List ℕ) (p : Progress) (s' : State) (out' : List ℕ) : Type 0 where
+pub record Answered (packet : List ℕ) (q : Progress) (s : State) (reply out : List ℕ) (p : Progress) (s' : State) (reply' out' : List ℕ) : Type 0 where
   pub state : s' ≡ step packet s reply .state
+  pub buffer : reply' ≡ step packet s reply .reply
   pub put : Puts (q .size) (lineOf (q .number + 1) (step packet s reply)) out out' (p .size)
   pub formed : Formed (q .number) (lineOf (q .number + 1) (step packet s reply)) (q .number + 1)
   pub number : p .number ≡ q .number + 1
@@ -115,8 +163,9 @@ pub record Answered (packet : List ℕ) (q : Progress) (s : State) (reply out : 
   pub fits : p .size ≤ q .size + lineRoom
 
 -- A turn takes a byte at least, and stays inside what is lent.
-pub record Turned (window : List ℕ) (from : Progress) (kept : List ℕ) (s : State) (out : List ℕ)
-    (p : Progress) (kept' : List ℕ) (s' : State) (out' : List ℕ) : Type 0 where
+pub record Turned (window : List ℕ) (from : Progress) (kept : List ℕ) (s : State) (reply out : List ℕ)
+    (p : Progress) (kept' : List ℕ) (s' : State) (reply' out' : List ℕ) : Type 0 where
+  pub outcome : going p kept' s' reply' out' ≡ turnOf window (going from kept s reply out)
   pub replayed : Replayed window from kept s out p kept' s' out'
   pub some : from .at < p .at
   pub inside : p .at ≤ length window

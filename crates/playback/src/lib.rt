@@ -44,7 +44,7 @@ pub fn replay(
 ) -> Progress
     ensures { λ r. ⌜ WindowReplayed (now (window .entry)) from (now (kept .entry))
         (state (now (block .entry)) (now (staged .entry)) (now (live .entry)) (now (gains .entry))) (now (reply .entry)) (now (out .entry))
-        r (now (kept .exit)) (state (now (block .exit)) (now (staged .exit)) (now (live .exit)) (now (gains .exit))) (now (out .exit)) ⌝ }
+        r (now (kept .exit)) (state (now (block .exit)) (now (staged .exit)) (now (live .exit)) (now (gains .exit))) (now (reply .exit)) (now (out .exit)) ⌝ }
 {
     let mut p = Progress {
         at: 0,
@@ -103,8 +103,8 @@ fn turn(
     requires { ⌜ (p .at < length (now window)) × (keptSize ≤ length (now kept)) × (replyRoom ≤ length (now reply))
         × (p .have ≤ mostRecord) × (p .size + lineRoom ≤ length (now out)) × (p .number < mostRecords) ⌝ }
     ensures { λ r. ⌜ Turned (now (window .entry)) p (now (kept .entry))
-        (state (now (block .entry)) (now (staged .entry)) (now (live .entry)) (now (gains .entry))) (now (out .entry))
-        r (now (kept .exit)) (state (now (block .exit)) (now (staged .exit)) (now (live .exit)) (now (gains .exit))) (now (out .exit)) ⌝ }
+        (state (now (block .entry)) (now (staged .entry)) (now (live .entry)) (now (gains .entry))) (now (reply .entry)) (now (out .entry))
+        r (now (kept .exit)) (state (now (block .exit)) (now (staged .exit)) (now (live .exit)) (now (gains .exit))) (now (reply .exit)) (now (out .exit)) ⌝ }
 {
     let at = p.at;
     let t = records::next(window, at, p.marked, p.have, kept);
@@ -148,7 +148,7 @@ fn answer(
 ) -> Progress
     requires { ⌜ (q .size + lineRoom ≤ length (now out)) × (q .number < mostRecords) ⌝ }
     ensures { λ r. ⌜ Answered (now (packet .entry)) q (state (now (block .entry)) (now (staged .entry)) (now (live .entry)) (now (gains .entry)))
-        (now (reply .entry)) (now (out .entry)) r (state (now (block .exit)) (now (staged .exit)) (now (live .exit)) (now (gains .exit))) (now (out .exit)) ⌝ }
+        (now (reply .entry)) (now (out .entry)) r (state (now (block .exit)) (now (staged .exit)) (now (live .exit)) (now (gains .exit))) (now (reply .exit)) (now (out .exit)) ⌝ }
 {
     let o = controller16::handle(packet, block, staged, live, gains, reply);
     let number = q.number + 1;

@@ -16,7 +16,7 @@ use Rattle.replay.specs.Played.{PlayedSome, Played}
 -- ---- As much as fills the output.
 
 pub some-written : {window : List ℕ} {from : Progress} {kept : List ℕ} {s : State} {reply out : List ℕ} {p : Progress} {kept' : List ℕ} {s' : State}
-    {out' : List ℕ} → WindowReplayed window from kept s reply out p kept' s' out' → PlayedSome window from kept s p kept' s'
+    {reply' out' : List ℕ} → WindowReplayed window from kept s reply out p kept' s' reply' out' → PlayedSome window from kept s p kept' s'
 some-written w = record { inside = w .inside; carried = λ some. carry-window w }
 
 pub some-unwritten : {window : List ℕ} {from : Progress} {kept : List ℕ} {s : State} {p : Progress} {kept' : List ℕ} {s' : State} → p .at ≡ 0

@@ -65,7 +65,8 @@ loop-less c = search needs
 loop-again : tie.Need-loop-again Inv-loop μ-loop
 loop-again c =
     let kept = c .before .before .before .before .before .before .before .before .before .before .before .before .before .before .before .before .before .before .before .before .before .before .before .before .before .before .before .loop .inv in
-    (loop-turn (kept .0) (c .before .before .before .before .before .before .before .before .before .before .before .before .before .before .turn .ensures) (search needs) (search needs) (search needs), search needs, search needs, search needs, search needs)
+    let room = room-true _ _ (c .before .before .before .before .before .before .before .before .before .before .before .before .before .before .before .before .before .before .before .before .before .before .before .before .before .before .before .loop .out) (sym (c .before .before .before .before .before .before .before .before .before .before .before .before .before .before .before .before .before .before .before .before .before .before .before .has-room .ensures) ∙ c .before .before .before .before .before .before .before .before .before .before .before .before .before .before .before .before .before .before .before .before .before .before .if3 .taken) in
+    (loop-turn (kept .0) (c .before .before .before .before .before .before .before .before .before .before .before .before .before .before .before .before .before .before .before .before .before .before .before .before .before .if2 .taken) room (c .before .before .before .before .before .before .before .before .before .before .before .before .before .before .turn .ensures) (search needs) (search needs) (search needs), search needs, search needs, search needs, search needs)
 
 -- src/lib.rt:30:1
 same-length-3 : tie.Need-same-length-3 Inv-loop μ-loop

@@ -1,7 +1,7 @@
 -- Each theorem of the list, where it is proved.
 use Rattle.playback.proofs.Files.{any-split, not-a-session, none-stopped, stays-right, over-long}
 use Rattle.playback.proofs.Plain.{printed}
-use Rattle.playback.proofs.Determined.{determined}
+use Rattle.playback.proofs.Determined.{window-determined, determined}
 use Rattle.playback.proofs.Example.{example, cut-example}
 use Rattle.playback.proofs.theorems.Statement.{statement}
 use Rattle.playback.proofs.theorems.Tie as tie
@@ -9,6 +9,7 @@ use Rattle.playback.proofs.theorems.Tie as tie
 returns : tie.Need-returns
 returns c =
     record {
+      window-determined = window-determined;
       any-split = any-split;
       printed = printed;
       determined = determined;

@@ -18,7 +18,7 @@ same-length c = search needs
 
 -- src/lib.rt:115:9
 returns : tie.Need-returns
-returns c = turned-none _ _ _ _ _ _ _ (c .before .before .before .before .next .ensures) (c .if1 .taken) (c .before .before .before .before .before .before .before .before .before .before .before .before .before .before .pre .4)
+returns c = turned-none _ _ _ _ _ _ _ _ (c .before .before .before .before .next .ensures) (c .if1 .taken) (c .before .before .before .before .before .before .before .before .before .before .before .before .before .before .pre .4)
 
 -- src/lib.rt:120:23
 sub-answer : tie.Need-sub-answer
@@ -68,7 +68,7 @@ same-length-8 c = search needs
 returns-2 : tie.Need-returns-2
 returns-2 c =
     let given = c .before .before .before .before .before .before .before .before .before .before .before .before .before .before .before .before .before .before .before .before .before .before .before .before .before .before .before .before .before .before .before .before .before .before .before .before .pre in
-    turned-window _ _ _ _ _ _ _ (c .before .before .before .before .before .before .before .before .before .before .before .before .before .before .before .before .before .before .before .before .before .before .before .before .before .before .next .ensures) (c .before .before .before .before .before .before .before .before .before .before .before .before .before .before .before .before .before .before .before .before .before .before .if1 .left) (c .before .before .before .before .before .before .before .before .before .before .before .before .before .before .before .before .before .before .before .before .if2 .taken) (given .4) _ (given .2) _ _ _ (c .before .before .before .before .before .before .before .before .before .before .before .before .answer .ensures)
+    turned-window _ _ _ _ _ _ _ (c .before .before .before .before .before .before .before .before .before .before .before .before .before .before .before .before .before .before .before .before .before .before .before .before .before .before .next .ensures) (c .before .before .before .before .before .before .before .before .before .before .before .before .before .before .before .before .before .before .before .before .before .before .if1 .left) (c .before .before .before .before .before .before .before .before .before .before .before .before .before .before .before .before .before .before .before .before .if2 .taken) (given .4) _ (given .2) _ _ _ _ (c .before .before .before .before .before .before .before .before .before .before .before .before .answer .ensures)
 
 -- src/lib.rt:122:12
 sub-answer-2 : tie.Need-sub-answer-2
@@ -118,7 +118,7 @@ same-length-15 c = search needs
 returns-3 : tie.Need-returns-3
 returns-3 c =
     let given = c .before .before .before .before .before .before .before .before .before .before .before .before .before .before .before .before .before .before .before .before .before .before .before .before .before .before .before .before .before .before .before .before .before .before .before .before .before .pre in
-    turned-kept _ _ _ _ _ _ _ (c .before .before .before .before .before .before .before .before .before .before .before .before .before .before .before .before .before .before .before .before .before .before .before .before .before .before .before .next .ensures) (c .before .before .before .before .before .before .before .before .before .before .before .before .before .before .before .before .before .before .before .before .before .before .before .if1 .left) (c .before .before .before .before .before .before .before .before .before .before .before .before .before .before .before .before .before .before .before .before .before .if2 .left) (given .4) _ (given .2) _ _ _ (c .before .before .before .before .before .before .before .before .before .before .before .before .answer2 .ensures)
+    turned-kept _ _ _ _ _ _ _ (c .before .before .before .before .before .before .before .before .before .before .before .before .before .before .before .before .before .before .before .before .before .before .before .before .before .before .before .next .ensures) (c .before .before .before .before .before .before .before .before .before .before .before .before .before .before .before .before .before .before .before .before .before .before .before .if1 .left) (c .before .before .before .before .before .before .before .before .before .before .before .before .before .before .before .before .before .before .before .before .before .if2 .left) (given .4) _ (given .2) _ _ _ _ (c .before .before .before .before .before .before .before .before .before .before .before .before .answer2 .ensures)
 
 pub turn-spec : {M : Type 1} → statement M
 turn-spec =
