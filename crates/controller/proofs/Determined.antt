@@ -190,11 +190,11 @@ module _ (p : List ℕ) (s : State) (reply : List ℕ) {o q : Out} (small : Mark
         | yes e ↦
             by-bits
             (λ r h.
-              stable _ _
-              (λ differ.
-                let off : TouchedBy (columnsOf (s .block)) p r → ⊥ =
-                λ t. differ (both-right b c r (f .rows .touched (zo, e, write) r t) (g .rows .touched (zq, e, write) r t)) in
-                differ (f .rows .untouched (zo, e, write) r h off ∙ sym (g .rows .untouched (zq, e, write) r h off))))
+            stable _ _
+            (λ differ.
+            let off : TouchedBy (columnsOf (s .block)) p r → ⊥ =
+            λ t. differ (both-right b c r (f .rows .touched (zo, e, write) r t) (g .rows .touched (zq, e, write) r t)) in
+            differ (f .rows .untouched (zo, e, write) r h off ∙ sym (g .rows .untouched (zq, e, write) r h off))))
         | no not-34 ↦
             elim (ℕ-discrete (opcodeOf p) 0x35) [
               | yes e ↦
@@ -341,17 +341,17 @@ pub reset-determined : (s : State) (o q : ResetOut) → ResetPlain s o → Reset
 reset-determined s o q f g =
     lent-or s
     (λ l.
-      let x = f .long l in
-      let y = g .long l in
-      same (f .accepted l ∙ sym (g .accepted l))
-      (by-element (x .block) (y .block) (λ k h. f .block-after l k h ∙ sym (g .block-after l k h)))
-      (by-element (x .staged) (y .staged) (λ k h. f .staged-after l k h ∙ sym (g .staged-after l k h)))
-      (by-element (x .live) (y .live) (λ k h. f .live-after l k h ∙ sym (g .live-after l k h)))
-      (by-element (x .gains) (y .gains) (λ k h. f .gains-after l k h ∙ sym (g .gains-after l k h))))
+    let x = f .long l in
+    let y = g .long l in
+    same (f .accepted l ∙ sym (g .accepted l))
+    (by-element (x .block) (y .block) (λ k h. f .block-after l k h ∙ sym (g .block-after l k h)))
+    (by-element (x .staged) (y .staged) (λ k h. f .staged-after l k h ∙ sym (g .staged-after l k h)))
+    (by-element (x .live) (y .live) (λ k h. f .live-after l k h ∙ sym (g .live-after l k h)))
+    (by-element (x .gains) (y .gains) (λ k h. f .gains-after l k h ∙ sym (g .gains-after l k h))))
     (λ wrong.
-      let x = f .wrong-length wrong in
-      let y = g .wrong-length wrong in
-      other (x .0 ∙ sym (y .0)) (x .1 ∙ sym (y .1)))
+    let x = f .wrong-length wrong in
+    let y = g .wrong-length wrong in
+    other (x .0 ∙ sym (y .0)) (x .1 ∙ sym (y .1)))
   where
     by-element : {a b : List ℕ} {n : ℕ} → length a ≡ n → length b ≡ n → ((k : ℕ) → k < n → getD a k 0 ≡ getD b k 0) → a ≡ b
     by-element {a} {b} x y h = ext-getD 0 a b (x ∙ sym y) (λ k l. h k (omega arith))

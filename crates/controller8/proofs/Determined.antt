@@ -52,13 +52,13 @@ pub step-determined-bytes : (p : List ℕ) → Bytes p → (l : Lent) (reply : L
 step-determined-bytes p bytes l reply o q small few f g =
     lent-or l
     (λ z.
-      let e = step-determined p bytes (stateIn l) reply (numbersOut o) (numbersOut q) (λ k h. small .block (865 + k)) (λ k h. few .block (865 + k)) (f .numbers z) (g .numbers z) in
-      same (ap (λ (u : Out). u .status) e) (ap (λ (u : Out). u .fault) e) (ap (λ (u : Out). u .size) e)
-      (same-lent (f .long z) (g .long z) small few (ap (λ (u : Out). u .state) e)) (ap (λ (u : Out). u .reply) e))
+    let e = step-determined p bytes (stateIn l) reply (numbersOut o) (numbersOut q) (λ k h. small .block (865 + k)) (λ k h. few .block (865 + k)) (f .numbers z) (g .numbers z) in
+    same (ap (λ (u : Out). u .status) e) (ap (λ (u : Out). u .fault) e) (ap (λ (u : Out). u .size) e)
+    (same-lent (f .long z) (g .long z) small few (ap (λ (u : Out). u .state) e)) (ap (λ (u : Out). u .reply) e))
     (λ none.
-      let x = f .wrong-length none in
-      let y = g .wrong-length none in
-      same (x .0 ∙ sym (y .0)) (x .1 ∙ sym (y .1)) (x .2 ∙ sym (y .2)) (x .3 ∙ sym (y .3)) (x .4 ∙ sym (y .4)))
+    let x = f .wrong-length none in
+    let y = g .wrong-length none in
+    same (x .0 ∙ sym (y .0)) (x .1 ∙ sym (y .1)) (x .2 ∙ sym (y .2)) (x .3 ∙ sym (y .3)) (x .4 ∙ sym (y .4)))
   where
     same : {n n′ f f′ size size′ : ℕ} {l l′ : Lent} {r r′ : List ℕ} → n ≡ n′ → f ≡ f′ → size ≡ size′ → l ≡ l′ → r ≡ r′
         → _≡_ {A = LentOut} (record { status = n; fault = f; size = size; lent = l; reply = r })
@@ -69,12 +69,12 @@ pub reset-determined-bytes : (l : Lent) (o q : LentReset) → AllBytes (o .lent)
 reset-determined-bytes l o q small few f g =
     lent-or l
     (λ z.
-      let e = reset-determined (stateIn l) (record { status = o .status; state = stateIn (o .lent) }) (record { status = q .status; state = stateIn (q .lent) }) (f .numbers z) (g .numbers z) in
-      same (ap (λ (u : ResetOut). u .status) e) (same-lent (f .long z) (g .long z) small few (ap (λ (u : ResetOut). u .state) e)))
+    let e = reset-determined (stateIn l) (record { status = o .status; state = stateIn (o .lent) }) (record { status = q .status; state = stateIn (q .lent) }) (f .numbers z) (g .numbers z) in
+    same (ap (λ (u : ResetOut). u .status) e) (same-lent (f .long z) (g .long z) small few (ap (λ (u : ResetOut). u .state) e)))
     (λ none.
-      let x = f .wrong-length none in
-      let y = g .wrong-length none in
-      same (x .0 ∙ sym (y .0)) (x .1 ∙ sym (y .1)))
+    let x = f .wrong-length none in
+    let y = g .wrong-length none in
+    same (x .0 ∙ sym (y .0)) (x .1 ∙ sym (y .1)))
   where
     same : {n n′ : ℕ} {l l′ : Lent} → n ≡ n′ → l ≡ l′ → _≡_ {A = LentReset} (record { status = n; lent = l }) (record { status = n′; lent = l′ })
     same n l = cc

@@ -71,8 +71,7 @@ module _ (p : List ℕ) where
     unfolding judgement
     given =
         let f = frame-rows in
-        let j = command-applies c l in
-        (
+        let j = command-applies c l in (
           λ e. too-short (ltb-true _ _ (f .0 .given e)),
           (
             λ e. too-long (ltb-true _ _ (f .1 .0 .given e)),
@@ -142,8 +141,7 @@ module _ (op options : ℕ) (d buffer : List ℕ)
   unfolding judgement
   make-given =
       let f = front-rows in
-      let j = command-applies c l in
-      (
+      let j = command-applies c l in (
         λ e. no-room (ltb-true _ _ (f .0 .given e)),
         (
           λ e. MakeRefuses.too-long (ltb-true _ _ (f .1 .0 .given e)),

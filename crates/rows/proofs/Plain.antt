@@ -22,8 +22,8 @@ same-bits k m n hm hn same = sym (number-back k m hm) ∙ ap ofBits alike ∙ nu
     alike =
         ext-getD false (bitsOf k m) (bitsOf k n) (length-bits k m ∙ sym (length-bits k n))
         (λ r h.
-          let few : r < k = omega (arith, length-bits k m) in
-          bit-at k m r few ∙ ap (λ (b : ℕ). eqb b 1) (same r few) ∙ sym (bit-at k n r few))
+        let few : r < k = omega (arith, length-bits k m) in
+        bit-at k m r few ∙ ap (λ (b : ℕ). eqb b 1) (same r few) ∙ sym (bit-at k n r few))
 
 -- Bits make a number below two to the power of their count.
 pub of-bits-small : (bs : List Bool) → ofBits bs < 2 ^ length bs
