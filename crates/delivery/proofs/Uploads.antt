@@ -11,7 +11,8 @@ use Rattle.wire.specs.Tables.{words, bytes}
 use Rattle.wire.specs.Plain.{Bytes}
 use Rattle.wire.proofs.Tables.{pairs-take, halves-take, halves-drop, halves-paste, halves-below, length-halves}
 use Rattle.tables.proofs.Bytes.{words-below, bytes-words, length-words, length-words-of}
-use Rattle.runs.specs.Pairs.{Pairs, expand, sumRuns}
+use Rattle.runs.specs.Pairs.{expand, sumRuns}
+use Rattle.runs.specs.Plain.{Pairs}
 use Rattle.runs.proofs.Expand.{pairs-both, sum-append}
 use Rattle.runs.proofs.Right.{pairs-even}
 use Rattle.rows.specs.Bits.{bitAt}
