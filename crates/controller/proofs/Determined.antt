@@ -1,5 +1,6 @@
--- The plain promises of one packet, of reset and of the row mark hold of one outcome at most. Of an accepted write all but the mark is what its row of Effects says; and
--- every bit of the mark is said, where it is written; bytes of a number are its own.
+-- The plain promises of one packet, of reset and of the row mark hold of one outcome at most. Of an
+-- accepted write all but the mark is what its row of Effects says; and every bit of the mark is
+-- said, where it is written; bytes of a number are its own.
 use Prim.Native.Nat.{ℕ, zero, suc, _+_, _*_, _^_, _≤_, _<_}
 use mathlib.Core.Path.{_≡_, refl, sym, ap, subst, _∙_}
 use mathlib.Core.Logic.{_↔_}

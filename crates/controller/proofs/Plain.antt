@@ -1,4 +1,5 @@
--- What one packet promises plainly, from the equation: each refusal by its condition, what is left by the rows of Effects, the reply by its bytes.
+-- What one packet promises plainly, from the equation: each refusal by its condition, what is left
+-- by the rows of Effects, the reply by its bytes.
 use Prim.Native.Nat.{ℕ, _≤_, _<_}
 use mathlib.Core.Path.{_≡_, refl, sym, ap, subst, _∙_}
 use mathlib.Core.Logic.{_⊎_, inl, inr, ⊎-elim}

@@ -1,5 +1,7 @@
--- What is demanded of one packet on a state, of whatever an entry answers and leaves (`Out`). `Handled` stands in the contracts of the entries: the equation; the plain
--- promise, which alone determines the outcome; and what follows from it for replies, ranges, the live side, bytes without a meaning and planning.
+-- What is demanded of one packet on a state, of whatever an entry answers and leaves (`Out`).
+-- `Handled` stands in the contracts of the entries: the equation; the plain promise, which alone
+-- determines the outcome; and what follows from it for replies, ranges, the live side, bytes
+-- without a meaning and planning.
 use Prim.Native.Nat.{ℕ, _+_, _≤_}
 use mathlib.Core.Path.{_≡_}
 use mathlib.Core.Logic.{_↔_}
@@ -24,8 +26,8 @@ use Rattle.controller.specs.Step.{replyData, Out, step}
 
 -- ---- Demand 2: which packets are accepted.
 
--- Rules 2.1 to 5.9 and 5.11: when a packet is accepted: what is lent is right, its frame is sound and meant for us, its data is allowed, and its
--- start and count lie within their table.
+-- Rules 2.1 to 5.9 and 5.11: when a packet is accepted: what is lent is right, its frame is sound
+-- and meant for us, its data is allowed, and its start and count lie within their table.
 pub record Accepted (p : List ℕ) (s : State) (reply : List ℕ) : Type 0 where
   pub lent : LentRight s reply
   pub taken : Taken p
@@ -33,8 +35,10 @@ pub record Accepted (p : List ℕ) (s : State) (reply : List ℕ) : Type 0 where
 
 -- ---- The reply.
 
--- Rules 3.2, 3.3, 3.6 and 4.6: one is written exactly if it is asked for and the number is not 1; that of a refusal, and of an accepted write, is the head
--- alone, and a checksum if there is one, but that of 10 has the place in two bytes between them; and it reads back as it was meant: its status, and its data.
+-- Rules 3.2, 3.3, 3.6 and 4.6: one is written exactly if it is asked for and the number is not 1;
+-- that of a refusal, and of an accepted write, is the head alone, and a checksum if there is one,
+-- but that of 10 has the place in two bytes between them; and it reads back as it was meant: its
+-- status, and its data.
 pub record Replied (p : List ℕ) (s : State) (o : Out) : Type 0 where
   pub asked : (1 ≤ o .size) ↔ (Asks p × (o .status ≡ 1 → ⊥))
   pub bare : (o .status ≡ 0 → isRead (headerOf p) ≡ 0) → (o .status ≡ 10 → ⊥) → 1 ≤ o .size → o .size ≡ 3 + hasSum (headerOf p)
@@ -73,7 +77,8 @@ pub record SameWrite (p : List ℕ) (s : State) (o : Out) : Type 0 where
 
 pub record Handled (p : List ℕ) (s : State) (reply : List ℕ) (o : Out) : Type 0 where
   pub outcome : o ≡ step p s reply
-  -- Demands 1 and 2, apart from the tests and the definitions of commands: this alone determines the outcome.
+  -- Demands 1 and 2, apart from the tests and the definitions of commands: this alone determines
+  -- the outcome.
   pub plain : StepPlain p s reply o
   -- Demand 2: accepted exactly if the rules allow it.
   pub exactly : (o .status ≡ 0) ↔ Accepted p s reply
@@ -88,10 +93,12 @@ pub record Handled (p : List ℕ) (s : State) (reply : List ℕ) (o : Out) : Typ
   pub cleared-by : Sets36 0 p o → o .state ≡ cleared s
   pub live : (Applies p o → ⊥) → LiveKept s (o .state)
   pub same-write : LentRight s reply → SameWrite p s o
-  -- Rule 11.5: on a state that has another mark, and is else the same, the answer, the reply and all but the mark are the same.
+  -- Rule 11.5: on a state that has another mark, and is else the same, the answer, the reply and
+  -- all but the mark are the same.
   pub unmarked : (t : State) → SameButMark s t → SameAnswer o (step p t reply)
 
--- Rule 5.10: the whole block and all tables if the lengths are right, and what it leaves is in range; else 1, and all as it was.
+-- Rule 5.10: the whole block and all tables if the lengths are right, and what it leaves is in
+-- range; else 1, and all as it was.
 pub record Resets (s : State) (o : ResetOut) : Type 0 where
   pub outcome : o ≡ reset s
   -- Byte by byte and number by number: this alone determines the outcome.

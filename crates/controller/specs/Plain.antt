@@ -1,5 +1,6 @@
--- What one packet on a state promises, of whatever an entry answers and leaves (`Out`), and what reset does; with every place as a number and apart from the tests.
--- The promise holds of one outcome at most (proofs/Determined).
+-- What one packet on a state promises, of whatever an entry answers and leaves (`Out`), and what
+-- reset does; with every place as a number and apart from the tests. The promise holds of one
+-- outcome at most (proofs/Determined).
 use Prim.Native.Nat.{ℕ, _+_, _-_, _*_, _/_, _%_, _≤_, _<_}
 use mathlib.Core.Path.{_≡_}
 use mathlib.Core.Logic.{_⊎_}
@@ -24,14 +25,16 @@ use Rattle.controller.specs.Rows.{MarkBytes, columnsOf, rowsOf, RowsMark
 
 -- ---- What is lent.
 
--- Rule 1.3: the lengths of block and tables: 1,024 bytes, two maps of 1,984 points, and three times 2,016 gains.
+-- Rule 1.3: the lengths of block and tables: 1,024 bytes, two maps of 1,984 points, and three times
+-- 2,016 gains.
 pub record StateLent (s : State) : Type 0 where
   pub block : length (s .block) ≡ 1024
   pub staged : length (s .staged) ≡ 3968
   pub live : length (s .live) ≡ 3968
   pub gains : length (s .gains) ≡ 6048
 
--- Rule 4.1, 1: what refusal 1 asks for: these lengths, room for any reply, and every setting in its range.
+-- Rule 4.1, 1: what refusal 1 asks for: these lengths, room for any reply, and every setting in its
+-- range.
 pub record LentRight (s : State) (reply : List ℕ) : Type 0 where
   pub tables : StateLent s
   pub room : 512 ≤ length reply
@@ -43,12 +46,14 @@ pub record LentRight (s : State) (reply : List ℕ) : Type 0 where
 abbrev pub stagedPoints : List ℕ → ℕ
 stagedPoints block = columnsOf block * rowsOf block
 
--- Rule 5.4: the start is a packet's first number; its points are what stands behind it, four bytes each.
+-- Rule 5.4: the start is a packet's first number; its points are what stands behind it, four bytes
+-- each.
 abbrev pub pointsEnd : List ℕ → ℕ
 pointsEnd p = wordAt (dataOf p) 0 + (length (dataOf p) - 2) / 4
 
--- Rules 5.4, 5.8 and 5.11: start and count lie within their table: 34h within the staged shape's points, 2Bh within a colour's gains, where pairs
--- (compression 1) count as many as the gains that they stand for.
+-- Rules 5.4, 5.8 and 5.11: start and count lie within their table: 34h within the staged shape's
+-- points, 2Bh within a colour's gains, where pairs (compression 1) count as many as the gains that
+-- they stand for.
 pub record Placed (p : List ℕ) (block : List ℕ) : Type 0 where
   pub points-written : opcodeOf p ≡ 0x34 → isRead (headerOf p) ≡ 0 → pointsEnd p ≤ stagedPoints block
   pub points-read : opcodeOf p ≡ 0x34 → isRead (headerOf p) ≡ 1 → wordAt (dataOf p) 0 + wordAt (dataOf p) 2 ≤ stagedPoints block
@@ -73,13 +78,15 @@ pub record Asks (p : List ℕ) : Type 0 where
   pub some : 1 ≤ length p
   pub bit : (isRead (headerOf p) ≡ 1) ⊎ (asksReply (headerOf p) ≡ 1)
 
--- Rules 3.3 and 4.6: the data of the reply: what an accepted read returns, the place of a fault in two bytes, or none.
+-- Rules 3.3 and 4.6: the data of the reply: what an accepted read returns, the place of a fault in
+-- two bytes, or none.
 pub data ReplyData (p : List ℕ) (s : State) (status fault : ℕ) : List ℕ → Type 0 where
   returned : {back : List ℕ} → status ≡ 0 → isRead (headerOf p) ≡ 1 → Returns s (opcodeOf p) (dataOf p) back → ReplyData p s status fault back
   place : status ≡ 10 → ReplyData p s status fault (fault % 256 ∷ fault / 256 ∷ [])
   none : (status ≡ 0 → isRead (headerOf p) ≡ 0) → (status ≡ 10 → ⊥) → ReplyData p s status fault []
 
--- Rule 3.1: status, length, data and, if the packet has one, a checksum, over the start of the reply buffer; what lies behind them stays.
+-- Rule 3.1: status, length, data and, if the packet has one, a checksum, over the start of the
+-- reply buffer; what lies behind them stays.
 pub record ReplyWritten (p : List ℕ) (s : State) (reply : List ℕ) (o : Out) : Type 0 where
   pub content : List ℕ
   pub by : ReplyData p s (o .status) (o .fault) content
@@ -88,7 +95,8 @@ pub record ReplyWritten (p : List ℕ) (s : State) (reply : List ℕ) (o : Out) 
 
 -- ---- What an accepted write leaves, rules 5.1 to 5.9 and 5.11.
 
--- Command by command, with every place as a number; but for the row mark, of which `rows` below speaks.
+-- Command by command, with every place as a number; but for the row mark, of which `rows` below
+-- speaks.
 pub record LeftBy (p : List ℕ) (s : State) (o : Out) : Type 0 where
   pub after : State
   pub by : Leaves s (opcodeOf p) (dataOf p) after
@@ -97,7 +105,8 @@ pub record LeftBy (p : List ℕ) (s : State) (o : Out) : Type 0 where
 -- ---- One packet.
 
 pub record StepPlain (p : List ℕ) (s : State) (reply : List ℕ) (o : Out) : Type 0 where
-  -- Rule 4.1: the first refusal that applies; 0 where none does, so that a packet is accepted exactly then.
+  -- Rule 4.1: the first refusal that applies; 0 where none does, so that a packet is accepted
+  -- exactly then.
   pub number : Least (StepRefuses p s reply) (o .status)
   -- Rule 4.6: 10 has the place of the first fault, nothing else has one.
   pub fault : o .status ≡ 10 → FirstFault (opcodeOf p) (optionsOf p) (dataOf p) (o .fault)

@@ -1,4 +1,5 @@
--- The plain promises of one packet and of reset, on bytes, hold of one outcome at most: bytes that hold the same numbers, and are as many, are the same.
+-- The plain promises of one packet and of reset, on bytes, hold of one outcome at most: bytes that
+-- hold the same numbers, and are as many, are the same.
 use Prim.Native.Nat.{ℕ, _+_, _*_}
 use mathlib.Core.Path.{_≡_, refl, sym, ap, _∙_}
 use mathlib.Core.Bool.{Bool, true, false}

@@ -1,5 +1,6 @@
--- Rule 1.3: one packet on a state that is lent as bytes, and reset of it: lengths are judged in bytes, exactly, and all else is of the numbers that the bytes hold.
--- The promises hold of one outcome at most (proofs/Determined).
+-- Rule 1.3: one packet on a state that is lent as bytes, and reset of it: lengths are judged in
+-- bytes, exactly, and all else is of the numbers that the bytes hold. The promises hold of one
+-- outcome at most (proofs/Determined).
 use Prim.Native.Nat.{ℕ}
 use mathlib.Core.Path.{_≡_}
 use mathlib.Core.List.{List}
@@ -23,7 +24,8 @@ pub record AllBytes (l : Lent) : Type 0 where
   pub live : Bytes (l .live)
   pub gains : Bytes (l .gains)
 
--- A wrong length is refusal 1, without a reply, and all is as it was. Else the lengths stay, and all that is promised on numbers holds.
+-- A wrong length is refusal 1, without a reply, and all is as it was. Else the lengths stay, and
+-- all that is promised on numbers holds.
 pub record StepBytesPlain (p : List ℕ) (l : Lent) (reply : List ℕ) (o : LentOut) : Type 0 where
   pub wrong-length : (BytesLent l → ⊥) → (o .status ≡ 1) × (o .fault ≡ 0) × (o .size ≡ 0) × (o .lent ≡ l) × (o .reply ≡ reply)
   pub long : BytesLent l → BytesLent (o .lent)

@@ -1,4 +1,5 @@
--- What the entries on bytes promise: their equation, the plain promise, which alone determines the outcome, and what the entries on numbers promise besides.
+-- What the entries on bytes promise: their equation, the plain promise, which alone determines the
+-- outcome, and what the entries on numbers promise besides.
 use Prim.Native.Nat.{ℕ}
 use mathlib.Core.Path.{_≡_}
 use mathlib.Core.Logic.{_↔_}
@@ -12,7 +13,8 @@ use Rattle.controller8.specs.Plain.{BytesLent, StepBytesPlain, ResetByte
 pub record HandledBytes (p : List ℕ) (l : Lent) (reply : List ℕ) (o : LentOut) : Type 0 where
   pub outcome : o ≡ stepBytes p l reply
   pub plain : StepBytesPlain p l reply o
-  -- Rule 4.2: a status other than 0 leaves block, staged, live and gains, byte for byte, as they were.
+  -- Rule 4.2: a status other than 0 leaves block, staged, live and gains, byte for byte, as they
+  -- were.
   pub unchanged : (o .status ≡ 0 → ⊥) → o .lent ≡ l
   -- The reply buffer changes only where the reply is written.
   pub behind : drop (o .size) (o .reply) ≡ drop (o .size) reply

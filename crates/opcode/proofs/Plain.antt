@@ -1,4 +1,5 @@
--- What names mean, by unfolding them; and when a command's refusals apply, from which number was given.
+-- What names mean, by unfolding them; and when a command's refusals apply, from which number was
+-- given.
 use Prim.Native.Nat.{ℕ, _<_}
 use mathlib.Core.Path.{_≡_, refl}
 use mathlib.Core.Logic.{_⊎_, ⊎-elim}

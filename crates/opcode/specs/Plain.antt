@@ -1,4 +1,5 @@
--- Rules 2.2 and 4.1: the bits of a header, and when each of the refusals 7 to 11 applies to a command, whatever the others do; with the numbers themselves.
+-- Rules 2.2 and 4.1: the bits of a header, and when each of the refusals 7 to 11 applies to a
+-- command, whatever the others do; with the numbers themselves.
 use Prim.Native.Nat.{ℕ, _+_, _*_, _/_, _%_}
 use mathlib.Core.Path.{_≡_}
 use mathlib.Core.List.{List}
@@ -7,7 +8,8 @@ use Rattle.opcode.specs.Allowed.{two}
 use Rattle.opcode.specs.Numbers.{Carried, LacksLength, SizeRight, Merges}
 use Rattle.opcode.specs.Faults.{FirstFault}
 
--- Rule 2.2: bits 0 to 2 the destination, 3 an opcode of two bytes, 4 a length, 5 a checksum, 6 a reply, 7 a read; bits 3 to 7, in place, are the options.
+-- Rule 2.2: bits 0 to 2 the destination, 3 an opcode of two bytes, 4 a length, 5 a checksum, 6 a
+-- reply, 7 a read; bits 3 to 7, in place, are the options.
 pub record Pinned : Type 0 where
   pub bit-3 : (h : ℕ) → twoByte h ≡ h / 8 % 2
   pub bit-4 : (h : ℕ) → hasLength h ≡ h / 16 % 2

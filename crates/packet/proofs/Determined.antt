@@ -1,4 +1,5 @@
--- The plain promises of reading, of making and of what a packet announces each hold of one outcome at most; and what names mean.
+-- The plain promises of reading, of making and of what a packet announces each hold of one outcome
+-- at most; and what names mean.
 use Prim.Native.Nat.{ℕ, zero, suc, _+_, _*_, _/_, _%_, _<_}
 use mathlib.Core.Path.{_≡_, refl, sym, ap, _∙_}
 use mathlib.Core.Bool.{Bool, true, false, _&&_}

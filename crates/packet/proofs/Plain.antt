@@ -1,4 +1,5 @@
--- What reading and making promise plainly, from their equations; and what names mean, by unfolding them.
+-- What reading and making promise plainly, from their equations; and what names mean, by unfolding
+-- them.
 use Prim.Native.Nat.{ℕ, _+_, _-_, _≤_, _<_}
 use mathlib.Core.Path.{_≡_, refl, sym, ap, _∙_}
 use mathlib.Core.Logic.{_⊎_}

@@ -1,5 +1,6 @@
--- Rules 2.1 to 2.6, 4.4 and 4.6: what reading and making a packet promise, how many bytes a packet announces, and what a packet does to a map of N points;
--- with the numbers themselves. Each promise holds of one outcome at most (proofs/Determined).
+-- Rules 2.1 to 2.6, 4.4 and 4.6: what reading and making a packet promise, how many bytes a packet
+-- announces, and what a packet does to a map of N points; with the numbers themselves. Each promise
+-- holds of one outcome at most (proofs/Determined).
 use Prim.Native.Nat.{ℕ, _+_, _-_, _*_, _/_, _%_, _≤_, _<_}
 use mathlib.Core.Path.{_≡_}
 use mathlib.Core.Logic.{_↔_}
@@ -56,13 +57,15 @@ pub record MakePlain (op options : ℕ) (d buffer : List ℕ) (m : Made) : Type 
   pub number : Least (MakeRefuses op (optionsIn options) d (length buffer)) (m .status)
   pub fault : m .status ≡ 10 → FirstFault op (optionsIn options) d (m .fault)
   pub no-fault : (m .status ≡ 10 → ⊥) → m .fault ≡ 0
-  -- The packet is written over the start of the buffer; what lies behind it stays. A refusal has no length and leaves all.
+  -- The packet is written over the start of the buffer; what lies behind it stays. A refusal has no
+  -- length and leaves all.
   pub size : m .status ≡ 0 → m .size ≡ length (packetOf op (optionsIn options) d)
   pub written : m .status ≡ 0
       → m .buffer ≡ packetOf op (optionsIn options) d ++ drop (length (packetOf op (optionsIn options) d)) buffer
   pub refused : (m .status ≡ 0 → ⊥) → (m .size ≡ 0) × (m .buffer ≡ buffer)
 
--- Rule 2.1: header, opcode (a high byte of 0 where it has two), the data's length where there is one, data.
+-- Rule 2.1: header, opcode (a high byte of 0 where it has two), the data's length where there is
+-- one, data.
 abbrev pub unsealed : ℕ → ℕ → List ℕ → List ℕ
 unsealed op o d =
     ((4 + o) ∷ op ∷ replicate (o / 8 % 2) 0) ++ (take (2 * (o / 16 % 2)) (length d % 256 ∷ length d / 256 ∷ []) ++ d)
@@ -101,7 +104,8 @@ pub record Pinned : Type 0 where
   pub read : (p : List ℕ) → Bytes p → ReadPlain p (reading p)
   -- Rules 2.1 and 2.5: behind these the checksum of them all, where there is one.
   pub packet : (op o : ℕ) (d : List ℕ) → packetOf op o d ≡ unsealed op o d ++ take (o / 32 % 2) (checksum (unsealed op o d) ∷ [])
-  -- Rules 5.4 and 7.1: a 34h write whose points lie within N writes them from its start on, two numbers a point; whatever else comes leaves the map.
+  -- Rules 5.4 and 7.1: a 34h write whose points lie within N writes them from its start on, two
+  -- numbers a point; whatever else comes leaves the map.
   pub accepted-at : (n : ℕ) (p : List ℕ) → (acceptedAt n p ≡ true) ↔ WritesAt n p
   pub map-written : (n : ℕ) (p map : List ℕ) → WritesAt n p
       → mapAfter n p map ≡ paste map (2 * wordAt (dataOf p) 0) (words (drop 2 (dataOf p))) (length (words (drop 2 (dataOf p))))

@@ -1,4 +1,5 @@
--- The promise of a window leaves one outcome; and, rules 9.2 to 9.4, the plain promise one text and one end state for a file.
+-- The promise of a window leaves one outcome; and, rules 9.2 to 9.4, the plain promise one text and
+-- one end state for a file.
 use Prim.Native.Nat.{ℕ, _+_, _<_}
 use mathlib.Core.Path.{_≡_, refl, sym, ap, subst, _∙_}
 use mathlib.Core.List.{List, [], _∷_, _++_}

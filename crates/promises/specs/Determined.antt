@@ -1,6 +1,8 @@
--- For each entry: two outcomes (its answer, and every lent list at exit) that both meet its plain promise are equal. So who believes the plain promises need not believe the
--- definitions that the code is proved to equal. Lists that are lent as bytes are bytes (`Bytes`, `AllBytes`, of a block on numbers the four of the row mark, `MarkBytes`), and measuring on bytes
--- is lent a room of whole numbers, as it asks for; nothing else is assumed.
+-- For each entry: two outcomes (its answer, and every lent list at exit) that both meet its plain
+-- promise are equal. So who believes the plain promises need not believe the definitions that the
+-- code is proved to equal. Lists that are lent as bytes are bytes (`Bytes`, `AllBytes`, of a block
+-- on numbers the four of the row mark, `MarkBytes`), and measuring on bytes is lent a room of whole
+-- numbers, as it asks for; nothing else is assumed.
 use Prim.Native.Nat.{ℕ, _%_}
 use mathlib.Core.Path.{_≡_}
 use mathlib.Core.Bool.{Bool}

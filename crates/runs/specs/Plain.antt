@@ -1,4 +1,5 @@
--- Rule 5.11: what pairs may be, what they stand for and what their runs add up to, with the numbers themselves.
+-- Rule 5.11: what pairs may be, what they stand for and what their runs add up to, with the numbers
+-- themselves.
 use Prim.Native.Nat.{ℕ, _+_, _≤_}
 use mathlib.Core.Path.{_≡_}
 use mathlib.Core.List.{List, [], _∷_, _++_}

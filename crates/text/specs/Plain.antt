@@ -1,4 +1,5 @@
--- Rule 9.2: what is right of text, said with the numbers themselves and apart from how it is made: it reads back.
+-- Rule 9.2: what is right of text, said with the numbers themselves and apart from how it is made:
+-- it reads back.
 use Prim.Native.Nat.{ℕ, _+_, _*_, _-_, _/_, _%_, _≤_, _<_}
 use mathlib.Core.Path.{_≡_}
 use mathlib.Core.List.{List, [], _∷_}

@@ -32,8 +32,8 @@ pub record Pinned : Type 0 where
   -- Rule 6.3: packets one behind the other.
   pub joined-0 : joined [] ≡ []
   pub joined-1 : (p : List ℕ) (ps : List (List ℕ)) → joined (p ∷ ps) ≡ p ++ joined ps
-  -- Rule 6.3: header 14h, opcode 34h, the length of the data, the start, and wanted's points. A point
-  -- is two numbers of two bytes; `pts` are as many numbers as count says, from the start on.
+  -- Rule 6.3: header 14h, opcode 34h, the length of the data, the start, and wanted's points. A
+  -- point is two numbers of two bytes; `pts` are as many numbers as count says, from the start on.
   pub packet : (wanted : List ℕ) (p : Part) (pts : List ℕ) → pts ≡ take (2 * p .count) (drop (2 * p .start) wanted)
       → packetFor wanted p
       ≡ 0x14 ∷ 0x34 ∷ (2 + 2 * length pts) % 256 ∷ (2 + 2 * length pts) / 256 ∷ p .start % 256 ∷ p .start / 256 ∷ bytes pts
@@ -53,8 +53,8 @@ pub record Sheets : Type 0 where
   pub choices : List ℕ
   pub batch : List ℕ
 
--- Rule 6.4: the status, then how many packets and how many bytes, 0 and 0 if refused. Then the lists,
--- as they are left.
+-- Rule 6.4: the status, then how many packets and how many bytes, 0 and 0 if refused. Then the
+-- lists, as they are left.
 pub record PlanOut : Type 0 where
   pub status : ℕ
   pub packets : ℕ
@@ -66,8 +66,8 @@ pub record PointsRight (n : ℕ) : Type 0 where
   pub some : 1 ≤ n
   pub few : n ≤ 1984
 
--- Rule 6.4: the lengths that planning asks for: so many numbers (or bytes) a point, in the plan and at
--- least in the room, a choice for each point of a full map, and a batch that holds any upload.
+-- Rule 6.4: the lengths that planning asks for: so many numbers (or bytes) a point, in the plan and
+-- at least in the room, a choice for each point of a full map, and a batch that holds any upload.
 pub record ListsRight (each plans places n : ℕ) (held wanted : List ℕ) (s : Sheets) : Type 0 where
   pub held-long : length held ≡ each * n
   pub wanted-long : length wanted ≡ each * n
@@ -93,8 +93,8 @@ pub record Nothing (before : Sheets) (o : PlanOut) : Type 0 where
   pub choices : o .left .choices ≡ before .choices
   pub batch : o .left .batch ≡ before .batch
 
--- Rule 6.4: nothing is refused exactly if points and lists are right; a wrong number of points is 10,
--- whatever the lists; else a wrong length is 1; and a refusal leaves all that was lent.
+-- Rule 6.4: nothing is refused exactly if points and lists are right; a wrong number of points is
+-- 10, whatever the lists; else a wrong length is 1; and a refusal leaves all that was lent.
 pub record PlanRefusals (n : ℕ) (Right : Type 0) (before : Sheets) (o : PlanOut) : Type 0 where
   pub exactly : (o .status ≡ 0) ↔ (PointsRight n × Right)
   pub wrong-points : (PointsRight n → ⊥) → o .status ≡ 10
@@ -103,9 +103,9 @@ pub record PlanRefusals (n : ℕ) (Right : Type 0) (before : Sheets) (o : PlanOu
 
 -- ---- Room and choices, rule 6.5.
 
--- Rules 6.5 and 7.3, demand 3 of the points from i on, taken as a map of their own: there are packets,
--- all accepted, that turn these points of held into those of wanted and have just so many bytes, and
--- no list of packets that does so has fewer.
+-- Rules 6.5 and 7.3, demand 3 of the points from i on, taken as a map of their own: there are
+-- packets, all accepted, that turn these points of held into those of wanted and have just so many
+-- bytes, and no list of packets that does so has fewer.
 pub record LeastFrom (n : ℕ) (held wanted : List ℕ) (i number : ℕ) : Type 0 where
   pub packets : List (List ℕ)
   pub accepted : AllAccepted (n - i) packets
@@ -124,8 +124,8 @@ SamePoint held wanted i =
     (getD held (2 * i) 0 ≡ getD wanted (2 * i) 0) × (getD held (2 * i + 1) 0 ≡ getD wanted (2 * i + 1) 0)
 
 -- Rules 6.2 and 6.5: of n points, where `from` gives the least bytes for those from a point on: a
--- packet that begins at point i costs 6 + 4 × count and what is left behind it. No count from 1 to 126
--- within the map costs less than this one, and every smaller one costs more.
+-- packet that begins at point i costs 6 + 4 × count and what is left behind it. No count from 1 to
+-- 126 within the map costs less than this one, and every smaller one costs more.
 pub record SmallestCount (n : ℕ) (from : ℕ → ℕ) (i count : ℕ) : Type 0 where
   pub some : 1 ≤ count
   pub few : count ≤ 126
@@ -134,8 +134,8 @@ pub record SmallestCount (n : ℕ) (from : ℕ → ℕ) (i count : ℕ) : Type 0
   pub lower : (c : ℕ) → 1 ≤ c → c ≤ 126 → i + c ≤ n → from i ≤ 6 + 4 * c + from (i + c)
   pub smallest : (c : ℕ) → 1 ≤ c → c < count → from i < 6 + 4 * c + from (i + c)
 
--- Rule 6.5: the first so many choices: at a point that differs the smallest count of those that cost
--- least from there on.
+-- Rule 6.5: the first so many choices: at a point that differs the smallest count of those that
+-- cost least from there on.
 pub record ChoicesMean (n : ℕ) (held wanted : List ℕ) (many : ℕ) (choices : List ℕ) : Type 0 where
   -- The least bytes for the points from each point on, and at n for none.
   pub from : ℕ → ℕ
@@ -147,8 +147,8 @@ pub record ChoicesMean (n : ℕ) (held wanted : List ℕ) (many : ℕ) (choices 
 -- ---- Planning.
 
 -- Rule 7.3, of an answer: the first so many bytes of the batch are packets back to back, as many as
--- answered, that turn held into wanted, all accepted, and every list of packets that turns held into
--- wanted has at least as many bytes.
+-- answered, that turn held into wanted, all accepted, and every list of packets that turns held
+-- into wanted has at least as many bytes.
 pub record Fewest (n : ℕ) (held wanted : List ℕ) (many size : ℕ) (batch : List ℕ) : Type 0 where
   pub packets : List (List ℕ)
   -- Rule 6.4.
@@ -159,8 +159,8 @@ pub record Fewest (n : ℕ) (held wanted : List ℕ) (many size : ℕ) (batch : 
   pub total : totalBytes packets ≡ size
   pub least : (ps : List (List ℕ)) → Turns n held wanted ps → size ≤ totalBytes ps
 
--- Part k of a plan. Rules 6.3 and 6.4: its start and count are numbers 2k and 2k + 1 of the lent list,
--- and its packet stands in the batch behind the bytes of the parts before it.
+-- Part k of a plan. Rules 6.3 and 6.4: its start and count are numbers 2k and 2k + 1 of the lent
+-- list, and its packet stands in the batch behind the bytes of the parts before it.
 abbrev pub partAt : List Part → ℕ → Part
 partAt parts k = getD parts k (part 0 0)
 
@@ -169,8 +169,8 @@ pub record Placed (wanted : List ℕ) (parts : List Part) (plan batch : List ℕ
   pub count-at : getD plan (2 * k + 1) 0 ≡ partAt parts k .count
   pub packet-at : take (6 + 4 * partAt parts k .count) (drop (cost (take k parts)) batch) ≡ packetFor wanted (partAt parts k)
 
--- Rule 6.2: the lent list begins with the plan: a list of (start, count), as many as answered, that is
--- chosen, and no other is.
+-- Rule 6.2: the lent list begins with the plan: a list of (start, count), as many as answered, that
+-- is chosen, and no other is.
 pub record PlanChosen (n : ℕ) (held wanted : List ℕ) (many size : ℕ) (plan choices batch : List ℕ) : Type 0 where
   pub parts : List Part
   -- Rule 6.4.
@@ -222,7 +222,8 @@ pub record PlanBytesPlain (n : ℕ) (held wanted : List ℕ) (before : Sheets) (
       (record { plan = words (before .plan); room = longs (before .room); choices = before .choices; batch = before .batch })
       (o .packets) (o .bytes)
       (record { plan = words (o .left .plan); room = longs (o .left .room); choices = o .left .choices; batch = o .left .batch })
-  -- A part of the plan is four bytes, and so is a number of the room, which may end in a part of one.
+  -- A part of the plan is four bytes, and so is a number of the room, which may end in a part of
+  -- one.
   pub plan-behind : drop (4 * o .packets) (o .left .plan) ≡ drop (4 * o .packets) (before .plan)
   pub room-behind : drop 508 (o .left .room) ≡ drop 508 (before .room)
   pub plan-kept : length (o .left .plan) ≡ length (before .plan)
@@ -231,8 +232,8 @@ pub record PlanBytesPlain (n : ℕ) (held wanted : List ℕ) (before : Sheets) (
 -- ---- Measuring, rules 6.5 and 7.3: the least bytes, with a room of so many numbers and so many
 -- choices. Whoever wants the bytes alone lends empty ones.
 
--- Rules 6.1 and 1.3, what is asked of the caller: two maps of n points, of so many numbers (or bytes)
--- a point.
+-- Rules 6.1 and 1.3, what is asked of the caller: two maps of n points, of so many numbers (or
+-- bytes) a point.
 pub record MapsLent (each n : ℕ) (held wanted : List ℕ) : Type 0 where
   pub few : n ≤ 1984
   pub held-long : length held ≡ each * n

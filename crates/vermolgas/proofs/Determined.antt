@@ -1,4 +1,5 @@
--- The plain promises of the C entries hold of one outcome at most: the parts of the answer are determined by the entry beneath, and make one number.
+-- The plain promises of the C entries hold of one outcome at most: the parts of the answer are
+-- determined by the entry beneath, and make one number.
 use Prim.Native.Nat.{ℕ}
 use mathlib.Core.Path.{_≡_, sym, ap, _∙_}
 use mathlib.Core.Bool.{Bool}

@@ -1,5 +1,7 @@
--- How the C entries pack an answer, status, lengths and place, into one number of 64 bits (docs/INTERFACE.md has the table), and what they promise: the equation; the plain
--- promise, which alone determines answer and lists; and of the parts of the answer all that the entry beneath promises.
+-- How the C entries pack an answer, status, lengths and place, into one number of 64 bits
+-- (docs/INTERFACE.md has the table), and what they promise: the equation; the plain promise, which
+-- alone determines answer and lists; and of the parts of the answer all that the entry beneath
+-- promises.
 use Prim.Native.Nat.{ℕ, _+_, _*_}
 use mathlib.Core.Path.{_≡_}
 use mathlib.Core.Bool.{Bool}

@@ -1,5 +1,7 @@
--- Rule 1.3: what the C entries answer, bit by bit, and that it is what is promised of the lists lent. The parts of an answer are given with what they are promised to be; no part is
--- larger than its bits, so that taking the number apart by the bits gives them. Each promise holds of one outcome at most (proofs/Determined).
+-- Rule 1.3: what the C entries answer, bit by bit, and that it is what is promised of the lists
+-- lent. The parts of an answer are given with what they are promised to be; no part is larger than
+-- its bits, so that taking the number apart by the bits gives them. Each promise holds of one
+-- outcome at most (proofs/Determined).
 use Prim.Native.Nat.{ℕ, _+_, _*_, _<_}
 use mathlib.Core.Path.{_≡_}
 use mathlib.Core.Bool.{Bool}
@@ -15,15 +17,17 @@ use Rattle.compress.specs.Plain.{CompressPlainBytes}
 use Rattle.split.specs.Plain.{SplitPlainBytes}
 use Rattle.upload.specs.Plain.{Sheets, PlanBytesPlain}
 
--- vermolgas_read, rule 2.6: the refusal in bits 0-7, the opcode in 8-15, header bits 3-7 in place in 16-23, the place of the data in 24-31; in 32-47 its size, or on a refusal
--- the place of the fault.
+-- vermolgas_read, rule 2.6: the refusal in bits 0-7, the opcode in 8-15, header bits 3-7 in place
+-- in 16-23, the place of the data in 24-31; in 32-47 its size, or on a refusal the place of the
+-- fault.
 pub record ReadC (p : List ℕ) (answer : ℕ) : Type 0 where
   pub a : Answer
   pub bits : answer ≡ a .number + 256 * a .opcode + 65536 * a .options + 16777216 * a .place + 4294967296 * (a .size + a .fault)
   pub small : (a .number < 256) × (a .opcode < 256) × (a .options < 256) × (a .place < 256) × (a .size < 65536) × (a .fault < 65536)
   pub plain : ReadPlain p a
 
--- vermolgas_make, rule 4.4: the status in bits 0-7, the packet's length in 8-23, the place of the fault in 32-47; and the buffer as it is left.
+-- vermolgas_make, rule 4.4: the status in bits 0-7, the packet's length in 8-23, the place of the
+-- fault in 32-47; and the buffer as it is left.
 pub record MakeC (op options : ℕ) (d buffer : List ℕ) (answer : ℕ) (left : List ℕ) : Type 0 where
   pub status : ℕ
   pub size : ℕ
@@ -32,14 +36,16 @@ pub record MakeC (op options : ℕ) (d buffer : List ℕ) (answer : ℕ) (left :
   pub small : (status < 256) × (size < 65536) × (fault < 65536)
   pub plain : MakePlain op options d buffer (record { status = status; fault = fault; size = size; buffer = left })
 
--- vermolgas_read_reply, rule 3.5: the refusal in bits 0-7, the reply's status in 8-15, its data's length in 16-31. Its data is at 3.
+-- vermolgas_read_reply, rule 3.5: the refusal in bits 0-7, the reply's status in 8-15, its data's
+-- length in 16-31. Its data is at 3.
 pub record ReplyC (r : List ℕ) (sum : Bool) (answer : ℕ) : Type 0 where
   pub a : ReplyAnswer
   pub bits : answer ≡ a .number + 256 * a .status + 65536 * a .size
   pub small : (a .number < 256) × (a .status < 256) × (a .size < 65536)
   pub plain : ReplyPlain r sum a
 
--- vermolgas_packet, rule 3.4: the status in bits 0-7, the reply's length in 8-23, the place of the fault in 32-47; and every lent list as it is left.
+-- vermolgas_packet, rule 3.4: the status in bits 0-7, the reply's length in 8-23, the place of the
+-- fault in 32-47; and every lent list as it is left.
 pub record StepC (p : List ℕ) (l : Lent) (reply : List ℕ) (answer : ℕ) (left : Lent) (after : List ℕ) : Type 0 where
   pub status : ℕ
   pub size : ℕ
@@ -52,7 +58,8 @@ pub record StepC (p : List ℕ) (l : Lent) (reply : List ℕ) (answer : ℕ) (le
 abbrev pub ResetC : Lent → ℕ → Lent → Type 0
 ResetC l answer left = ResetBytesPlain l (record { status = answer; lent = left })
 
--- vermolgas_rows, rule 11.4: the status in bits 0-7, the number of marked rows in 8-15, the lowest of them in 16-23.
+-- vermolgas_rows, rule 11.4: the status in bits 0-7, the number of marked rows in 8-15, the lowest
+-- of them in 16-23.
 pub record RowsC (block : List ℕ) (answer : ℕ) : Type 0 where
   pub status : ℕ
   pub count : ℕ
@@ -61,7 +68,8 @@ pub record RowsC (block : List ℕ) (answer : ℕ) : Type 0 where
   pub small : (status < 256) × (count < 256) × (lowest < 256)
   pub plain : RowsPlain block status count lowest
 
--- vermolgas_compress, rule 10.2: the status in bits 0-7, the number of pairs from 8 on; and the room as it is left.
+-- vermolgas_compress, rule 10.2: the status in bits 0-7, the number of pairs from 8 on; and the
+-- room as it is left.
 pub record CompressC (gains room : List ℕ) (answer : ℕ) (left : List ℕ) : Type 0 where
   pub status : ℕ
   pub pairs : ℕ
@@ -69,7 +77,8 @@ pub record CompressC (gains room : List ℕ) (answer : ℕ) (left : List ℕ) : 
   pub small : status < 256
   pub plain : CompressPlainBytes gains room (record { status = status; pairs = pairs; room = left })
 
--- vermolgas_split, rule 10.4: the status in bits 0-7, the number of packets in 8-31, the batch's bytes from 32 on; and the batch as it is left.
+-- vermolgas_split, rule 10.4: the status in bits 0-7, the number of packets in 8-31, the batch's
+-- bytes from 32 on; and the batch as it is left.
 pub record SplitC (colour start : ℕ) (pairs batch : List ℕ) (answer : ℕ) (left : List ℕ) : Type 0 where
   pub status : ℕ
   pub packets : ℕ

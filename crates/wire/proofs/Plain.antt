@@ -37,7 +37,8 @@ pinned =
       overwritten = λ s buffer. refl;
     }
 
--- Two numbers, each the least that applies, are equal: the lesser would have been passed by the other.
+-- Two numbers, each the least that applies, are equal: the lesser would have been passed by the
+-- other.
 pub least-one : {C : ℕ → Type 0} (m n : ℕ) → Least C m → Least C n → m ≡ n
 least-one zero zero a b = refl
 least-one zero (suc n) a b = absurd (a .passed (inl refl) (b .applies (λ e. omega arith)))

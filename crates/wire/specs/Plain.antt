@@ -1,5 +1,6 @@
--- What the names of this crate mean that plain promises cite, clause by clause and with the numbers themselves; and what it is to give the first refusal that applies.
--- A reader who believes this file need not believe the definitions that it speaks of.
+-- What the names of this crate mean that plain promises cite, clause by clause and with the numbers
+-- themselves; and what it is to give the first refusal that applies. A reader who believes this
+-- file need not believe the definitions that it speaks of.
 use Prim.Native.Nat.{ℕ, _+_, _*_, _/_, _%_, _<_}
 use mathlib.Core.Path.{_≡_}
 use mathlib.Core.Logic.{_⊎_}
@@ -10,7 +11,8 @@ use Rattle.wire.specs.Tables.{words, bytes, longs, longBytes}
 use Rattle.wire.specs.Checksum.{weighted, checksum}
 use Rattle.wire.specs.Buffers.{over}
 
--- Rule 4.1: of refusals that apply or not, each by a condition of its own, the number given is the least that applies; 0 is given where none does.
+-- Rule 4.1: of refusals that apply or not, each by a condition of its own, the number given is the
+-- least that applies; 0 is given where none does.
 pub record Least (Applies : ℕ → Type 0) (n : ℕ) : Type 0 where
   pub applies : (n ≡ 0 → ⊥) → Applies n
   pub passed : {k : ℕ} → (n ≡ 0) ⊎ (k < n) → Applies k → ⊥
@@ -19,7 +21,8 @@ pub record Least (Applies : ℕ → Type 0) (n : ℕ) : Type 0 where
 abbrev pub Bytes : List ℕ → Type 0
 Bytes s = (k : ℕ) → getD s k 0 < 256
 
--- Rules 2.3 and 1.3: numbers low byte first, past the end 0; rule 2.5: the checksum by weights; rule 4.2: bytes over the start of a buffer.
+-- Rules 2.3 and 1.3: numbers low byte first, past the end 0; rule 2.5: the checksum by weights;
+-- rule 4.2: bytes over the start of a buffer.
 pub record Pinned : Type 0 where
   pub byte : (s : List ℕ) (i : ℕ) → byteAt s i ≡ getD s i 0
   pub word : (s : List ℕ) (i : ℕ) → wordAt s i ≡ getD s i 0 + 256 * getD s (i + 1) 0
