@@ -52,6 +52,11 @@ abbrev pub notASession : List ℕ
 notASession =
     110 ∷ 111 ∷ 116 ∷ 32 ∷ 97 ∷ 32 ∷ 115 ∷ 101 ∷ 115 ∷ 115 ∷ 105 ∷ 111 ∷ 110 ∷ 10 ∷ []
 
+-- Rule 9.7: `unreadable`, and a newline.
+abbrev pub unreadableLine : List ℕ
+unreadableLine =
+    117 ∷ 110 ∷ 114 ∷ 101 ∷ 97 ∷ 100 ∷ 97 ∷ 98 ∷ 108 ∷ 101 ∷ 10 ∷ []
+
 -- Rules 9.3 and 9.4: what is printed at the end of the file: so many bytes of the mark, whole records, and bytes of the last one.
 unfoldable pub closing : ℕ → ℕ → ℕ → List ℕ
 closing marked number have =

@@ -14,7 +14,7 @@ use Rattle.records.specs.Session.{Run, taken}
 use Rattle.records.specs.declared.Taken.{Taken}
 use Rattle.records.specs.Windows.{keptSize, mostRecord, part, nowhere, found, nextTaken, nextKept, «Stands» as ReaderStands}
 use Rattle.playback.specs.declared.Progress.{Progress}
-use Rattle.playback.specs.Replay.{lineOf, lines, stateAfterRecords, closing, Formed}
+use Rattle.playback.specs.Replay.{lineOf, lines, stateAfterRecords, unreadableLine, closing, Formed}
 
 -- Room for any line: two numbers, 512 bytes in hex, a blank and a newline.
 abbrev pub lineRoom : ℕ
@@ -147,6 +147,10 @@ cutRoom = 25
 abbrev pub closingText : Progress → List ℕ → List ℕ
 closingText p out =
     cond (leb closingRoom (length out) && ltb (p .number) mostRecords) (closing (p .marked) (p .number) (p .have)) []
+
+-- Rule 9.7: what is printed where no more can be read: nothing without room.
+abbrev pub unreadableText : List ℕ → List ℕ
+unreadableText out = cond (leb closingRoom (length out)) unreadableLine []
 
 -- ---- The steps of the code.
 

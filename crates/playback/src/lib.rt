@@ -10,7 +10,7 @@ ghost use Rattle.records.specs.Windows.{keptSize, mostRecord};
 ghost use Rattle.playback.specs.Replay.{line, cutText, endLine};
 ghost use Rattle.playback.specs.Theorems.{Theorems};
 ghost use Rattle.playback.specs.Windows.{lineRoom, mostRecords, hasRoom, roomsRight, Answered, Turned, WindowReplayed};
-ghost use Rattle.playback.specs.Windows.{cutRoom, closingRoom, closingText};
+ghost use Rattle.playback.specs.Windows.{cutRoom, closingRoom, closingText, unreadableText};
 
 // Room for any line: two numbers, 512 bytes in hex, a blank and a newline.
 pub const LINE_ROOM: usize = 1578;
@@ -213,6 +213,16 @@ fn put_end(out: &mut [u8], at: usize, number: u64) -> usize
     let behind_end = text::put_text(out, at, b"end ");
     let behind_number = text::put_number(out, behind_end, number);
     text::put_text(out, behind_number, b"\n")
+}
+
+// Rule 9.7: the line for an input that can't be read, over the start of the output: nothing where there is no room.
+pub fn unreadable(out: &mut [u8]) -> usize
+    ensures { λ r. ⌜ Puts 0 (unreadableText (now (out .entry))) (now (out .entry)) (now (out .exit)) r × (r ≤ length (now (out .exit))) ⌝ }
+{
+    if out.len() < CLOSING_ROOM {
+        return 0;
+    }
+    text::put_text(out, 0, b"unreadable\n")
 }
 
 // Nothing to run: its contract is what holds of whole files.

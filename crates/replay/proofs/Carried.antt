@@ -1,27 +1,31 @@
 -- What goes from window to window, from reset to the last line.
-use Prim.Native.Nat.{ℕ, _≤_, _<_}
+use Prim.Native.Nat.{ℕ, zero, suc, _≤_, _<_, min}
 use mathlib.Core.Path.{_≡_, refl, sym, ap, subst, _∙_}
 use mathlib.Core.Logic.{_⊎_, inl, inr}
-use mathlib.Core.Bool.{Bool, true, false, cond}
+use mathlib.Core.Bool.{Bool, true, false, cond, _||_}
 use mathlib.Core.List.{List, [], _++_}
 use native.Mathlib.Decide.{ℕ-discrete}
 use native.Mathlib.Omega.{arith}
-use borrow.Author.Tests.{eq-eqb, ne-eqb}
-use lib.Dec.{eqb}
-use lib.Seq.{sets, length-take-le}
+use borrow.Author.Tests.{eq-eqb, ne-eqb, le-leb, lt-leb, le-ltb}
+use lib.Dec.{eqb, ltb}
+use lib.IntN.{ℤ, pos, negsuc}
+use lib.Signed.{ltZ}
+use lib.Seq.{length-take-le}
 use lib.ListN.{length, take}
+use Rattle.io.specs.Counts.{clamped}
+use Rattle.text.specs.Text.{Puts}
 use Rattle.controller.specs.State.{State, ResetOut, reset, resetState}
 use Rattle.controller.specs.Calls.{stateAfterAll}
 use Rattle.controller.specs.Plain.{StateLent}
 use Rattle.controller.specs.Demands.{Resets}
 use Rattle.controller.proofs.Demands.{state-lent}
-use Rattle.records.specs.Session.{Run, taken, fileRun, start}
+use Rattle.records.specs.Session.{Run, taken, spoiled, fileRun, start}
 use Rattle.records.proofs.Runs.{taken-append}
 use Rattle.playback.specs.declared.Progress.{Progress}
-use Rattle.playback.specs.Windows.{Stands, Carries, closingText}
+use Rattle.playback.specs.Windows.{Stands, Carries, closingRoom, closingText, unreadableText}
 use Rattle.playback.proofs.Turns.{carry-as}
 use Rattle.replay.specs.declared.Stand.{Stand}
-use Rattle.replay.specs.Played.{Played, wayOf, carried, WindowTaken, ReadSoFar, Closed}
+use Rattle.replay.specs.Played.{Played, wayOf, carried, onward, TakenIn, WindowTaken, ReadSoFar, LastLines}
 
 -- ---- From reset.
 
@@ -50,76 +54,91 @@ unfolding wayOf
 way-taken failed n q h =
     elim (ℕ-discrete (q .at) n) [ yes e ↦ e | no e ↦ absurd (h (rw (ne-eqb (q .at) n e) refl)) ]
 
-way-more : (failed : Bool) (n : ℕ) (q : Progress) → wayOf failed n q ≡ 0 → 0 < n
+way-fine : (failed : Bool) (n : ℕ) (q : Progress) → (wayOf failed n q ≡ 3 → ⊥)
+    → wayOf failed n q ≡ cond failed 2 (cond (eqb n 0 || eqb (q .marked) spoiled) 1 0)
 unfolding wayOf
-way-more failed n q h =
-    elim (ℕ-discrete n 0) [
-      | yes e ↦ absurd (go (eqb (q .at) n) failed (rw (eq-eqb n 0 e) at h))
-      | no e ↦ omega arith
-    ]
-  where
-    go : (a b : Bool) → _≡_ {A = ℕ} (cond a (cond b 2 1) 3) 0 → ⊥
-    go true true e = omega arith
-    go true false e = omega arith
-    go false b e = omega arith
+way-fine failed n q fine = rw (eq-eqb (q .at) n (way-taken failed n q fine)) refl
 
-way-ended : (failed : Bool) (n : ℕ) (q : Progress) → wayOf failed n q ≡ 1 → (n ≡ 0) ⊎ (q .marked ≡ 6)
-unfolding wayOf
-way-ended failed n q h =
-    elim (ℕ-discrete n 0) [
-      | yes e ↦ inl e
-      | no e ↦
-          elim (ℕ-discrete (q .marked) 6) [
-            | yes f ↦ inr f
-            | no f ↦ absurd (go (eqb (q .at) n) failed (rw (ne-eqb n 0 e, ne-eqb (q .marked) 6 f) at h))
-          ]
-    ]
-  where
-    go : (a b : Bool) → _≡_ {A = ℕ} (cond a (cond b 2 0) 3) 1 → ⊥
-    go true true e = omega arith
-    go true false e = omega arith
-    go false b e = omega arith
+-- A read that failed, one that gave nothing, and one that gave some bytes.
+way-onward : (got : ℤ) (most : ℕ) (q : Progress) → 0 < most → (wayOf (ltZ got (pos 0)) (clamped got most) q ≡ 3 → ⊥)
+    → wayOf (ltZ got (pos 0)) (clamped got most) q ≡ onward got (q .marked)
+unfolding onward
+way-onward (negsuc k) most q room fine = way-fine true 0 q fine
+way-onward (pos zero) most q room fine =
+    way-fine false (min 0 most) q fine ∙ rw (eq-eqb (min 0 most) 0 (omega arith)) refl
+way-onward (pos (suc k)) most q room fine =
+    way-fine (ltb (suc k) 0) (min (suc k) most) q fine ∙ rw (le-ltb (suc k) 0 (omega arith), ne-eqb (min (suc k) most) 0 (λ e. omega arith)) refl
 
 -- ---- A window, and one behind others.
 
-pub window-taken : {s s' : Stand} {window kept kept' : List ℕ} {t t' : State} {from q : Progress} (failed : Bool) (n : ℕ)
-    → from ≡ carried s → Played (take n window) from kept t q kept' t' → s' .how ≡ wayOf failed n q → s' .marked ≡ q .marked
-    → s' .number ≡ q .number → s' .have ≡ q .have → n ≤ length window → WindowTaken s kept t window s' kept' t'
-window-taken {s} {s'} {window} {kept} {kept'} {t} {t'} {from} {q} failed n same played how m number h fits =
+pub taken-in : {s s' : Stand} {window kept kept' : List ℕ} {t t' : State} {from q : Progress} {got z : ℤ} (n : ℕ) → z ≡ got → n ≡ clamped z (length window)
+    → from ≡ carried s → Played (take n window) from kept t q kept' t' → s' .how ≡ wayOf (ltZ z (pos 0)) n q → s' .marked ≡ q .marked
+    → s' .number ≡ q .number → s' .have ≡ q .have → n ≤ length window → TakenIn s got window kept t s' kept' t'
+taken-in {s} {s'} {window} {kept} {kept'} {t} {t'} {from} {q} {got} {z} n answer counted same played way m number h fits =
+    let counts : n ≡ clamped got (length window) = subst (λ (y : ℤ). n ≡ clamped y (length window)) answer counted in
+    let how : s' .how ≡ wayOf (ltZ got (pos 0)) n q = subst (λ (y : ℤ). s' .how ≡ wayOf (ltZ y (pos 0)) n q) answer way in
     record {
-      count = n;
-      inside = fits;
       taken =
           λ fine.
-          let all : q .at ≡ length (take n window) = way-taken failed n q (λ e. fine (how ∙ e)) ∙ sym (length-take-le n window fits) in
-          subst (λ (p : Progress). Carries (take n window) p kept t (carried s') kept' t') same
-          (carry-as m number h (played .carried all));
-      goes-on = λ e. way-more failed n q (sym how ∙ e);
-      ends =
-          λ e.
-          elim (way-ended failed n q (sym how ∙ e)) [ inl z ↦ inl z | inr f ↦ inr (m ∙ f) ];
+          let all : q .at ≡ length (take n window) = way-taken (ltZ got (pos 0)) n q (λ e. fine (how ∙ e)) ∙ sym (length-take-le n window fits) in
+          subst (λ (k : ℕ). Carries (take k window) (carried s) kept t (carried s') kept' t') counts
+          (subst (λ (p : Progress). Carries (take n window) p kept t (carried s') kept' t') same
+          (carry-as m number h (played .carried all)));
+      goes-on =
+          λ room fine.
+          let as-counted : s' .how ≡ wayOf (ltZ got (pos 0)) (clamped got (length window)) q = how ∙ ap (λ (k : ℕ). wayOf (ltZ got (pos 0)) k q) counts in
+          as-counted ∙ way-onward got (length window) q room (λ e. fine (as-counted ∙ e)) ∙ ap (onward got) (sym m);
     }
 
 pub read-on : {s s' : Stand} {window kept kept' : List ℕ} {t t' : State} → ReadSoFar s kept t → s .how ≡ 0 → WindowTaken s kept t window s' kept' t'
     → ReadSoFar s' kept' t'
 unfolding fileRun
 read-on {s} {s'} {window} {kept} {kept'} {t} {t'} x more w =
+    let given : List ℕ = take (clamped (w .got) (length window)) window in
     record {
-      bytes = x .bytes ++ take (w .count) window;
+      bytes = x .bytes ++ given;
       stands =
           λ fine.
-          subst (λ (r : Run). Stands resetState r (carried s') kept' t') (sym (taken-append start (x .bytes) (take (w .count) window)))
-          (w .taken fine .stands resetState (fileRun (x .bytes)) (x .stands (λ e. omega arith)));
+          subst (λ (r : Run). Stands resetState r (carried s') kept' t') (sym (taken-append start (x .bytes) given))
+          (w .answered .taken fine .stands resetState (fileRun (x .bytes)) (x .stands (λ e. omega arith)));
     }
 
--- ---- The last lines.
+-- ---- The last lines, case by case.
 
-pub closed-not : {s : Stand} {out : List ℕ} → (s .how ≡ 1 → ⊥) → Closed s out out
-closed-not other = record { at-end = λ e. absurd (other e); else-same = λ e. refl }
+one-of : (s : Stand) → s .how ≡ 1 → s .how ≡ 3 → ⊥
+one-of s one three = omega (arith, one, three)
 
-pub closed-end : {s : Stand} {out out' : List ℕ} {p : Progress} → s .how ≡ 1 → p ≡ carried s → out' ≡ sets out 0 (closingText p out) → Closed s out out'
-closed-end {s} {out} {out'} {p} one same put =
+-- Behind a write that failed.
+pub none-put : {s : Stand} {out : List ℕ} → s .how ≡ 3 → LastLines s out out 0
+none-put {s} three =
     record {
-      at-end = λ e. put ∙ ap (λ (q : Progress). sets out 0 (closingText q out)) same;
-      else-same = λ e. absurd (e one);
+      text = [];
+      put = record { ends = refl; exits = refl };
+      at-end = λ e. absurd (one-of s e three);
+      unread = λ one other. absurd (other three);
+      unwritten = λ e. refl;
+    }
+
+-- Where no more could be read.
+pub unread-put : {s : Stand} {out out' : List ℕ} {size : ℕ} → (s .how ≡ 1 → ⊥) → (s .how ≡ 3 → ⊥) → Puts 0 (unreadableText out) out out' size
+    → LastLines s out out' size
+unread-put {s} {out} not-ended written put =
+    record {
+      text = unreadableText out;
+      put = put;
+      at-end = λ e. absurd (not-ended e);
+      unread = λ one three room. rw (le-leb closingRoom (length out) room) refl;
+      unwritten = λ e. elim e [ inl three ↦ absurd (written three) | inr short ↦ rw (lt-leb closingRoom (length out) short) refl ];
+    }
+
+-- At the end of the file.
+pub end-put : {s : Stand} {out out' : List ℕ} {p : Progress} {size : ℕ} → s .how ≡ 1 → p ≡ carried s → Puts 0 (closingText p out) out out' size
+    → LastLines s out out' size
+end-put {s} {out} {out'} {p} {size} one same put =
+    record {
+      text = closingText p out;
+      put = put;
+      at-end = λ e. ap (λ (q : Progress). closingText q out) same;
+      unread = λ other. absurd (other one);
+      unwritten = λ e. elim e [ inl three ↦ absurd (one-of s one three) | inr short ↦ rw (lt-leb closingRoom (length out) short) refl ];
     }

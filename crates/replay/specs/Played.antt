@@ -1,13 +1,15 @@
 -- Rule 9.6: the program's windows, as far as a contract can speak of them: what was read is free,
 -- and so is whether a write succeeds.
-use Prim.Native.Nat.{ℕ, _≤_, _<_}
+use Prim.Native.Nat.{ℕ, zero, suc, _≤_, _<_}
 use mathlib.Core.Path.{_≡_}
 use mathlib.Core.Logic.{_⊎_}
 use mathlib.Core.Bool.{Bool, cond, _||_}
-use mathlib.Core.List.{List}
+use mathlib.Core.List.{List, [], _∷_}
 use lib.Dec.{eqb}
-use lib.Seq.{sets}
+use lib.IntN.{ℤ, pos, negsuc}
 use lib.ListN.{length, take}
+use Rattle.io.specs.Counts.{clamped}
+use Rattle.text.specs.Text.{Puts}
 use Rattle.controller.specs.State.{State, resetState}
 use Rattle.records.specs.Session.{spoiled, fileRun}
 use Rattle.playback.specs.declared.Progress.{Progress}
@@ -51,15 +53,23 @@ wayOf failed n p =
 abbrev pub carried : Stand → Progress
 carried s = progress 0 0 (s .marked) (s .number) (s .have)
 
--- A window was read, and some bytes at its start were replayed: unless a write failed, they have
--- taken on what is carried. It goes on behind some bytes alone, and the file ends where there are
--- none, or where it is no session.
+-- Rules 9.4 and 9.7: how it goes on behind what a read answered, with so much of the mark: 2 where
+-- it failed; 1 where it gave nothing, or where this is no session; else 0, with another window.
+unfoldable pub onward : ℤ → ℕ → ℕ
+onward (negsuc k) marked = 2
+onward (pos zero) marked = 1
+onward (pos (suc k)) marked = cond (eqb marked 6) 1 0
+
+-- A read has answered `got`: unless a write failed, all bytes that it gave have taken on what is
+-- carried, and it goes on as the answer says. A window has room for some bytes.
+pub record TakenIn (s : Stand) (got : ℤ) (window kept : List ℕ) (t : State) (s' : Stand) (kept' : List ℕ) (t' : State) : Type 0 where
+  pub taken : (s' .how ≡ 3 → ⊥) → Carries (take (clamped got (length window)) window) (carried s) kept t (carried s') kept' t'
+  pub goes-on : 0 < length window → (s' .how ≡ 3 → ⊥) → s' .how ≡ onward got (s' .marked)
+
+-- A window was read; what the read answered is free.
 pub record WindowTaken (s : Stand) (kept : List ℕ) (t : State) (window : List ℕ) (s' : Stand) (kept' : List ℕ) (t' : State) : Type 0 where
-  pub count : ℕ
-  pub inside : count ≤ length window
-  pub taken : (s' .how ≡ 3 → ⊥) → Carries (take count window) (carried s) kept t (carried s') kept' t'
-  pub goes-on : s' .how ≡ 0 → 0 < count
-  pub ends : s' .how ≡ 1 → (count ≡ 0) ⊎ (s' .marked ≡ 6)
+  pub got : ℤ
+  pub answered : TakenIn s got window kept t s' kept' t'
 
 -- Rule 9.6: unless a write failed, what is carried stands for the bytes read so far, replayed from
 -- reset.
@@ -67,11 +77,21 @@ pub record ReadSoFar (s : Stand) (kept : List ℕ) (t : State) : Type 0 where
   pub bytes : List ℕ
   pub stands : (s .how ≡ 3 → ⊥) → Stands resetState (fileRun bytes) (carried s) kept t
 
--- Rule 9.3: at the end of a file the output has what is printed behind the last record; else it is
--- as it was.
+-- Rules 9.3, 9.4 and 9.7: the last lines, which so many bytes at the start of the output are. At
+-- the end of a file they are what is printed behind the last record; nothing behind a write that
+-- failed; else, where no more could be read, `unreadable`. Fewer than 50 bytes are no room.
+pub record LastLines (s : Stand) (out out' : List ℕ) (size : ℕ) : Type 0 where
+  pub text : List ℕ
+  pub put : Puts 0 text out out' size
+  pub at-end : s .how ≡ 1 → text ≡ closingText (carried s) out
+  pub unread : (s .how ≡ 1 → ⊥) → (s .how ≡ 3 → ⊥) → 50 ≤ length out
+      → text ≡ 117 ∷ 110 ∷ 114 ∷ 101 ∷ 97 ∷ 100 ∷ 97 ∷ 98 ∷ 108 ∷ 101 ∷ 10 ∷ []
+  pub unwritten : (s .how ≡ 3) ⊎ (length out < 50) → text ≡ []
+
+-- They were put, and handed over to be written.
 pub record Closed (s : Stand) (out out' : List ℕ) : Type 0 where
-  pub at-end : s .how ≡ 1 → out' ≡ sets out 0 (closingText (carried s) out)
-  pub else-same : (s .how ≡ 1 → ⊥) → out' ≡ out
+  pub size : ℕ
+  pub lines : LastLines s out out' size
 
 -- Rules 9.2 to 9.7: the whole run, from reset. Unless a write failed, what is carried at the end
 -- stands for some bytes, those that were read; and the lines behind the last record are those of

@@ -7,10 +7,11 @@ use libc::STDOUT_FILENO;
 use playback::Progress;
 use records::KEPT_SIZE;
 use settings::layout::BLOCK_SIZE;
-ghost use Prim.Native.Nat.{_+_, _<_};
+ghost use Prim.Native.Nat.{_+_, _≤_, _<_};
 ghost use mathlib.Core.Path.{_≡_};
+ghost use lib.ListN.{length};
 ghost use Rattle.controller.specs.State.{state, resetState};
-ghost use Rattle.replay.specs.Played.{PlayedSome, Played, wayOf, carried, WindowTaken, Closed, Ran};
+ghost use Rattle.replay.specs.Played.{PlayedSome, Played, wayOf, carried, TakenIn, WindowTaken, LastLines, Closed, Ran};
 
 // As much as a pipe holds.
 const WINDOW_SIZE: usize = 65536;
@@ -102,6 +103,25 @@ fn one_window(
         (now (window .exit)) r (now (kept .exit)) (state (now (block .exit)) (now (staged .exit)) (now (live .exit)) (now (gains .exit))) ⌝ }
 {
     let got = libc::read(STDIN_FILENO, window);
+    take_in(s, got, window, kept, block, staged, live, gains, reply, out)
+}
+
+// Replays what a read gave: it failed, or put so many bytes at the start of the window.
+fn take_in(
+    s: Stand,
+    got: isize,
+    window: &[u8],
+    kept: &mut [u8],
+    block: &mut [u8],
+    staged: &mut [u16],
+    live: &mut [u16],
+    gains: &mut [u16],
+    reply: &mut [u8],
+    out: &mut [u8],
+) -> Stand
+    ensures { λ r. ⌜ TakenIn s got (now (window .entry)) (now (kept .entry)) (state (now (block .entry)) (now (staged .entry)) (now (live .entry)) (now (gains .entry)))
+        r (now (kept .exit)) (state (now (block .exit)) (now (staged .exit)) (now (live .exit)) (now (gains .exit))) ⌝ }
+{
     let n = io::count(got, window);
     let p = play(
         &window[..n],
@@ -163,19 +183,25 @@ fn left(turns: u64, how: usize) -> u64
     if how == MORE { turns - 1 } else { 0 }
 }
 
-// The last lines: none behind a write that failed.
+// Writes the last lines.
 fn close(s: Stand, out: &mut [u8])
     ensures { λ _. ⌜ Closed s (now (out .entry)) (now (out .exit)) ⌝ }
 {
+    let size = last_lines(s, out);
+    io::write_all(STDOUT_FILENO, &out[..size]);
+}
+
+// The last lines, over the start of the output: none behind a write that failed.
+fn last_lines(s: Stand, out: &mut [u8]) -> usize
+    ensures { λ r. ⌜ LastLines s (now (out .entry)) (now (out .exit)) r × (r ≤ length (now (out .exit))) ⌝ }
+{
     if s.how == UNWRITABLE {
-        return;
+        return 0;
     }
     if s.how != ENDED {
-        io::write_all(STDOUT_FILENO, b"unreadable\n");
-        return;
+        return playback::unreadable(out);
     }
-    let size = playback::finish(progress(s), out);
-    io::write_all(STDOUT_FILENO, &out[..size]);
+    playback::finish(progress(s), out)
 }
 
 // One window: its lines, written as often as they fill the output. Less than all of it is taken where a write failed, or no record can be counted any more.

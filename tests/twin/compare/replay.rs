@@ -56,6 +56,7 @@ fn main() -> ExitCode {
     comparison.group("300,000 records", replaying::many_records);
     comparison.group("few bytes at a time", replaying::slowly);
     comparison.group("windows", replaying::windows);
+    comparison.group("lengths of reads", replaying::read_lengths);
     comparison.group("long outputs", replaying::long_outputs);
     comparison.group("garbage", replaying::garbage);
     comparison.group("an endless input", failing::endless_zeros);

@@ -262,6 +262,26 @@ pub fn windows(comparison: &mut Comparison) {
     }
 }
 
+/// A read of every length, from one byte to as many as a window and a pipe hold, between others: a read
+/// that is not replayed whole would show.
+pub fn read_lengths(comparison: &mut Comparison) {
+    let lengths: Vec<usize> = (1..=65_536).collect();
+    for some in lengths.chunks(64) {
+        let file = long_records(some.iter().sum());
+        comparison.replay(&file, &Feed::Parts(some.to_vec()));
+    }
+}
+
+/// A session of at least so many bytes: records that are too long for a packet, a probe behind each.
+fn long_records(size: usize) -> Vec<u8> {
+    let mut file = OPENING.to_vec();
+    while file.len() < size {
+        push_record(&mut file, &[PROBE[0]; 30_011]);
+        push_record(&mut file, &PROBE);
+    }
+    file
+}
+
 /// A session with a record of this length that starts at this byte of the file.
 fn record_at(random: &mut Random, start: usize, length: usize) -> Vec<u8> {
     let mut file = OPENING.to_vec();

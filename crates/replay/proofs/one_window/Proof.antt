@@ -1,5 +1,3 @@
-use Rattle.replay.proofs.Carried.{window-taken}
-use mathlib.Core.Path.{refl}
 use borrow.Author.Needs.{needs}
 use Rattle.replay.proofs.one_window.Statement.{statement}
 use Rattle.replay.proofs.one_window.Tie as tie
@@ -9,23 +7,8 @@ use Rattle.replay.proofs.one_window.Lts as lts
 read-requires : tie.Need-read-requires
 read-requires c κs = search needs
 
-count-requires : tie.Need-count-requires
-count-requires c κs = search needs
-
-slice-reshare-prefix-play : tie.Need-slice-reshare-prefix-play
-slice-reshare-prefix-play c = search needs
-
-slice-aggregate-play : tie.Need-slice-aggregate-play
-slice-aggregate-play c = search needs
-
-progress-requires : tie.Need-progress-requires
-progress-requires c κs = search needs
-
-play-requires : tie.Need-play-requires
-play-requires c κs = search needs
-
-way-requires : tie.Need-way-requires
-way-requires c κs = search needs
+take-in-requires : tie.Need-take-in-requires
+take-in-requires c κs = search needs
 
 same-length : tie.Need-same-length
 same-length c = search needs
@@ -52,20 +35,14 @@ same-length-8 : tie.Need-same-length-8
 same-length-8 c = search needs
 
 returns : tie.Need-returns
-returns c =
-    window-taken _ (c .before .before .before .before .before .before .before .before .before .before .before .before .before .before .before .before .before .before .before .before .before .before .before .before .before .count .result) (c .before .before .before .before .before .before .before .before .before .before .before .before .before .before .before .before .before .before .before .before .before .before .before .progress .ensures) (c .before .before .before .before .before .before .before .before .before .before .before .before .before .before .before .play .ensures) (c .way .ensures) refl refl refl (search needs)
+returns c = record { got = _; answered = c .before .before .before .before .before .before .before .before .before .before .before .before .before .before .take-in .ensures }
 
 pub one-window-spec : {M : Type 1} → statement M
 one-window-spec =
     tie.close
     (tie.spec
     read-requires
-    count-requires
-    slice-reshare-prefix-play
-    slice-aggregate-play
-    progress-requires
-    play-requires
-    way-requires
+    take-in-requires
     same-length
     same-length-2
     same-length-3
