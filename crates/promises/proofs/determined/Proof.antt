@@ -16,6 +16,7 @@ use Rattle.batch.proofs.Plain.{«pinned» as gains-named}
 use Rattle.split.proofs.Determined.{«determined-numbers» as split-numbers, «determined-bytes» as split-bytes}
 use Rattle.vermolgas.proofs.Determined.{read-c, make-c, reply-c, step-c, reset-c, rows-c, compress-c, split-c, plan-c}
 use Rattle.promises.specs.Determined.{Named, OnNumbers, OnBytes, ForC}
+use Rattle.promises.specs.Promised.{Promised}
 use Rattle.promises.proofs.determined.Statement.{statement}
 use Rattle.promises.proofs.determined.Tie as tie
 
@@ -32,6 +33,37 @@ named =
       lent = lent-named;
       plans = plans-named;
       gains = gains-named;
+    }
+
+promised : Promised
+promised =
+    record {
+      read = λ p a f. f .plain;
+      make = λ op options d buffer m f. f .plain;
+      reply = λ r sum a f. f .plain;
+      rising = λ lists n f. f .plain;
+      packet = λ p s reply o f. f .plain;
+      reset = λ s o f. f .plain;
+      rows = λ block status count lowest f. f .plain;
+      compress = λ gains room o f. f .plain;
+      split = λ colour start pairs batch o f. f .plain;
+      plan = λ n held wanted before o f. f .plain;
+      measure = λ n held wanted numbers many size room choices f. f .plain;
+      packet-bytes = λ p l reply o f. f .plain;
+      reset-bytes = λ l o f. f .plain;
+      compress-bytes = λ gains room o f. f .plain;
+      split-bytes = λ colour start pairs batch o f. f .right .plain;
+      plan-bytes = λ n held wanted before o f. f .plain;
+      measure-bytes = λ n held wanted room₀ choices₀ size room choices f. f .plain;
+      read-c = λ p n f. f .plain;
+      make-c = λ op options d buffer n left f. f .plain;
+      reply-c = λ r sum n f. f .plain;
+      packet-c = λ p l reply n left after f. f .plain;
+      reset-c = λ l n left f. f .plain;
+      rows-c = λ block n f. f .plain;
+      compress-c = λ gains room n left f. f .plain;
+      split-c = λ colour start pairs batch n left f. f .plain;
+      plan-c = λ n held wanted before a left f. f .plain;
     }
 
 on-numbers : OnNumbers
@@ -81,7 +113,7 @@ for-c =
     }
 
 returns : tie.Need-returns
-returns c = (named, on-numbers, on-bytes, for-c)
+returns c = (named, promised, on-numbers, on-bytes, for-c)
 
 pub determined-spec : {M : Type 1} → statement M
 determined-spec = tie.close (tie.spec returns)
