@@ -18,8 +18,7 @@ use Rattle.records.specs.Session.{Run, fileRun}
 use Rattle.records.specs.Plain.{Marked}
 use Rattle.records.proofs.File.{file-read}
 use Rattle.playback.specs.Replay.{replyBuffer, line, lines, stateAfterRecords, cutWord, endLine, closing, replayText, endState}
-use Rattle.playback.specs.Theorems.{Countable}
-use Rattle.playback.specs.Plain.{Fresh, Says, Recounts, Closes, Printed}
+use Rattle.playback.specs.Plain.{Countable, Fresh, Says, Recounts, Closes, Printed}
 use Rattle.playback.proofs.Lines.{length-buffer}
 use Rattle.playback.proofs.Turns.{status-small}
 use Rattle.playback.proofs.Files.{text-is, closing-none}

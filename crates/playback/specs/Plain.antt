@@ -9,6 +9,13 @@ use Rattle.records.specs.Plain.{Marked, Splits}
 use Rattle.controller.specs.State.{State, resetState}
 use Rattle.controller.specs.Step.{step}
 
+-- Rule 9.6: so many records can be counted: fewer than 2^64 - 1; and those of a file can.
+abbrev pub Counted : ℕ → Type 0
+Counted n = n < 18446744073709551615
+
+abbrev pub Countable : List ℕ → Type 0
+Countable file = (packets : List (List ℕ)) (rest : List ℕ) → Splits (drop 5 file) packets rest → Counted (length packets)
+
 -- The reply buffer of each record: 512 bytes, all 0.
 pub record Fresh (buffer : List ℕ) : Type 0 where
   pub long : length buffer ≡ 512

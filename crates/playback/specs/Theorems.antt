@@ -9,15 +9,11 @@ use Rattle.controller.specs.Step.{statusReply, step}
 use Rattle.controller.specs.Plain.{LentRight}
 use Rattle.wire.specs.Plain.{Bytes}
 use Rattle.records.specs.Session.{fileRun}
-use Rattle.records.specs.Plain.{Marked, Splits}
+use Rattle.records.specs.Plain.{Marked}
 use Rattle.playback.specs.declared.Progress.{Progress}
 use Rattle.playback.specs.Replay.{replyBuffer, lineOf, notASession, replayText, endState, Formed}
-use Rattle.playback.specs.Plain.{Printed}
+use Rattle.playback.specs.Plain.{Counted, Countable, Printed}
 use Rattle.playback.specs.Windows.{progress, WindowReplayed, going, closingText}
-
--- Rule 9.6: the records of a file can be counted.
-abbrev pub Countable : List ℕ → Type 0
-Countable file = (packets : List (List ℕ)) (rest : List ℕ) → Splits (drop 5 file) packets rest → length packets < 18446744073709551615
 
 -- Rule 9.6: calls of `replay`, window after window, each with an output and a reply buffer of its own: the bytes that they took, and the text that they put.
 pub data Called (from : Progress) (kept : List ℕ) (s : State) : List ℕ → List ℕ → Progress → List ℕ → State → Type 0 where
@@ -29,11 +25,11 @@ pub data Called (from : Progress) (kept : List ℕ) (s : State) : List ℕ → L
 -- Rules 9.2 to 9.6: what they have put, and behind it what `finish` puts, is the text of the bytes that they took, and the state is their end state; each line has
 -- its form; and a call that is lent room takes some of its window.
 pub record WholeText (bytes text : List ℕ) (p : Progress) (kept : List ℕ) (s : State) : Type 0 where
-  pub printed : (out : List ℕ) → 50 ≤ length out → p .number < 18446744073709551615 → text ++ closingText p out ≡ replayText bytes
+  pub printed : (out : List ℕ) → 50 ≤ length out → Counted (p .number) → text ++ closingText p out ≡ replayText bytes
   pub state : s ≡ endState bytes
   pub formed : Formed 0 text (p .number)
   pub moves : {window reply out kept' reply' out' : List ℕ} {q : Progress} {s' : State} → WindowReplayed window p kept s reply out q kept' s' reply' out'
-      → p .have ≤ 65537 → 515 ≤ length kept → 512 ≤ length reply → 1578 ≤ length out → p .number < 18446744073709551615 → 0 < length window → 0 < q .at
+      → p .have ≤ 65537 → 515 ≤ length kept → 512 ≤ length reply → 1578 ≤ length out → Counted (p .number) → 0 < length window → 0 < q .at
 
 -- Rule 4.1: no record is refused by 1, each judged on the state that it gets.
 pub data NoneStopped : List (List ℕ) → State → Type 0 where

@@ -1,5 +1,5 @@
 -- What goes from window to window, from reset to the last line.
-use Prim.Native.Nat.{ℕ, zero, suc, _≤_, _<_, min}
+use Prim.Native.Nat.{ℕ, zero, suc, _+_, _≤_, _<_, min}
 use mathlib.Core.Path.{_≡_, refl, sym, ap, subst, _∙_}
 use mathlib.Core.Logic.{_⊎_, inl, inr}
 use mathlib.Core.Bool.{Bool, true, false, cond, _||_}
@@ -25,7 +25,7 @@ use Rattle.playback.specs.declared.Progress.{Progress}
 use Rattle.playback.specs.Windows.{Stands, Carries, closingRoom, closingText, unreadableText}
 use Rattle.playback.proofs.Turns.{carry-as}
 use Rattle.replay.specs.declared.Stand.{Stand}
-use Rattle.replay.specs.Played.{Played, wayOf, carried, onward, TakenIn, WindowTaken, ReadSoFar, LastLines}
+use Rattle.replay.specs.Played.{Played, wayOf, carried, onward, TakenIn, WindowTaken, Windows, ReadSoFar, LastLines}
 
 -- ---- From reset.
 
@@ -33,7 +33,7 @@ pub from-reset : {s : State} {o : ResetOut} → Resets s o → StateLent s → o
 unfolding reset
 from-reset {s} {o} r l = ap (λ (x : ResetOut). x .state) (r .outcome) ∙ rw (state-lent s .1 l) refl
 
-pub read-none : (s : Stand) (kept : List ℕ) (t : State) → t ≡ resetState → s .marked ≡ 0 → s .number ≡ 0 → s .have ≡ 0 → ReadSoFar s kept t
+read-none : (s : Stand) (kept : List ℕ) (t : State) → t ≡ resetState → s .marked ≡ 0 → s .number ≡ 0 → s .have ≡ 0 → ReadSoFar s kept t
 unfolding stateAfterAll taken fileRun
 read-none s kept t e m n h =
     record {
@@ -90,7 +90,7 @@ taken-in {s} {s'} {window} {kept} {kept'} {t} {t'} {from} {q} {got} {z} n answer
           as-counted ∙ way-onward got (length window) q room (λ e. fine (as-counted ∙ e)) ∙ ap (onward got) (sym m);
     }
 
-pub read-on : {s s' : Stand} {window kept kept' : List ℕ} {t t' : State} → ReadSoFar s kept t → s .how ≡ 0 → WindowTaken s kept t window s' kept' t'
+read-on : {s s' : Stand} {window kept kept' : List ℕ} {t t' : State} → ReadSoFar s kept t → s .how ≡ 0 → WindowTaken s kept t window s' kept' t'
     → ReadSoFar s' kept' t'
 unfolding fileRun
 read-on {s} {s'} {window} {kept} {kept'} {t} {t'} x more w =
@@ -102,6 +102,36 @@ read-on {s} {s'} {window} {kept} {kept'} {t} {t'} x more w =
           subst (λ (r : Run). Stands resetState r (carried s') kept' t') (sym (taken-append start (x .bytes) given))
           (w .answered .taken fine .stands resetState (fileRun (x .bytes)) (x .stands (λ e. omega arith)));
     }
+
+-- ---- Window after window.
+
+-- So many windows, and so many turns are left, if it goes on.
+pub record SoFar (s : Stand) (kept : List ℕ) (t : State) (turns : ℕ) : Type 0 where
+  pub count : ℕ
+  pub windows : Windows count s kept t
+  pub turns-left : s .how ≡ 0 → count + turns ≡ 18446744073709551615
+
+pub start-of : {s : Stand} {kept : List ℕ} {t : State} → t ≡ resetState → s .marked ≡ 0 → s .number ≡ 0 → s .have ≡ 0 → s .how ≡ 0
+    → SoFar s kept t 18446744073709551615
+start-of {s} {kept} {t} e m n h w =
+    record {
+      count = 0;
+      windows = subst (λ (u : State). Windows 0 s kept u) (sym e) (Windows.none m n h w);
+      turns-left = λ z. refl;
+    }
+
+pub one-more : {s s' : Stand} {window kept kept' : List ℕ} {t t' : State} {turns turns' : ℕ} → SoFar s kept t turns → s .how ≡ 0
+    → WindowTaken s kept t window s' kept' t' → (s' .how ≡ 0 → turns' + 1 ≡ turns) → SoFar s' kept' t' turns'
+one-more x more w left =
+    record {
+      count = x .count + 1;
+      windows = Windows.next (x .windows) more w;
+      turns-left = λ z. omega (arith, x .turns-left more, left z);
+    }
+
+pub read-so-far : {n : ℕ} {s : Stand} {kept : List ℕ} {t : State} → Windows n s kept t → ReadSoFar s kept t
+read-so-far {s = s} {kept = kept} (Windows.none m n h w) = read-none s kept resetState refl m n h
+read-so-far (Windows.next before more w) = read-on (read-so-far before) more w
 
 -- ---- The last lines, case by case.
 

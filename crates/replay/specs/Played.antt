@@ -1,6 +1,6 @@
 -- Rule 9.6: the program's windows, as far as a contract can speak of them: what was read is free,
 -- and so is whether a write succeeds.
-use Prim.Native.Nat.{ℕ, zero, suc, _≤_, _<_}
+use Prim.Native.Nat.{ℕ, zero, suc, _+_, _≤_, _<_}
 use mathlib.Core.Path.{_≡_}
 use mathlib.Core.Logic.{_⊎_}
 use mathlib.Core.Bool.{Bool, cond, _||_}
@@ -71,6 +71,13 @@ pub record WindowTaken (s : Stand) (kept : List ℕ) (t : State) (window : List 
   pub got : ℤ
   pub answered : TakenIn s got window kept t s' kept' t'
 
+-- Rule 9.6: so many windows, the first from reset, and each on what the one before it carries; it
+-- went on behind each but the last.
+pub data Windows : ℕ → Stand → List ℕ → State → Type 0 where
+  none : {s : Stand} {kept : List ℕ} → s .marked ≡ 0 → s .number ≡ 0 → s .have ≡ 0 → s .how ≡ 0 → Windows 0 s kept resetState
+  next : {n : ℕ} {s s' : Stand} {window kept kept' : List ℕ} {t t' : State} → Windows n s kept t → s .how ≡ 0
+      → WindowTaken s kept t window s' kept' t' → Windows (n + 1) s' kept' t'
+
 -- Rule 9.6: unless a write failed, what is carried stands for the bytes read so far, replayed from
 -- reset.
 pub record ReadSoFar (s : Stand) (kept : List ℕ) (t : State) : Type 0 where
@@ -93,10 +100,14 @@ pub record Closed (s : Stand) (out out' : List ℕ) : Type 0 where
   pub size : ℕ
   pub lines : LastLines s out out' size
 
--- Rules 9.2 to 9.7: the whole run, from reset. Unless a write failed, what is carried at the end
--- stands for some bytes, those that were read; and the lines behind the last record are those of
--- what is carried.
+-- Rules 9.2 to 9.7: the whole run, from reset: window after window, and no end but that of the
+-- file, a failure, or 2^64 - 1 windows. Unless a write failed, what is carried at the end stands
+-- for some bytes, those that were read; and the lines behind the last record are those of what is
+-- carried.
 pub record Ran (last : Stand) (kept : List ℕ) (t : State) (out' : List ℕ) : Type 0 where
+  pub count : ℕ
+  pub windows : Windows count last kept t
+  pub all : last .how ≡ 0 → count ≡ 18446744073709551615
   pub read : ReadSoFar last kept t
   pub out : List ℕ
   pub closed : Closed last out out'

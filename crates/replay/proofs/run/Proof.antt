@@ -1,7 +1,7 @@
 use Prim.Native.Nat.{_<_}
 use Rattle.controller.specs.State.{state}
-use Rattle.replay.specs.Played.{ReadSoFar}
-use Rattle.replay.proofs.Carried.{read-none, read-on}
+use Rattle.replay.proofs.Carried.{SoFar, start-of, one-more, read-so-far}
+use native.Mathlib.Omega.{arith}
 use mathlib.Core.Path.{_≡_, refl}
 use lib.ListN.{length}
 use borrow.Author.Needs.{needs}
@@ -15,7 +15,7 @@ use Rattle.replay.proofs.one_window.Reads as one-window-reads
 
 abbrev Inv-loop : tie.InvT-loop
 Inv-loop window₀ kept₀ block₀ staged₀ live₀ gains₀ reply₀ out₀ s₀ turns₀ window kept block staged live gains reply out s turns =
-    ReadSoFar s kept (state block staged live gains) × (0 < turns → s .how ≡ 0)
+    SoFar s kept (state block staged live gains) turns × (0 < turns → s .how ≡ 0)
     × (length window ≡ length window₀) × (length kept ≡ length kept₀) × (length block ≡ length block₀) × (length staged ≡ length staged₀)
     × (length live ≡ length live₀) × (length gains ≡ length gains₀) × (length reply ≡ length reply₀) × (length out ≡ length out₀)
 
@@ -24,7 +24,7 @@ abbrev μ-loop : tie.MeasureT-loop
     turns
 
 loop-holds : tie.Need-loop-holds Inv-loop μ-loop
-loop-holds c = (read-none _ _ _ (c .before .before .before .before .before .before .before .before .pre) refl refl refl, λ some. refl, refl, refl, refl, refl, refl, refl, refl, refl)
+loop-holds c = (start-of (c .before .before .before .before .before .before .before .before .pre) refl refl refl refl, λ some. refl, refl, refl, refl, refl, refl, refl, refl, refl)
 
 one-window-requires : tie.Need-one-window-requires Inv-loop μ-loop
 one-window-requires c κs = search needs
@@ -37,7 +37,7 @@ loop-less c = search needs
 
 loop-again : tie.Need-loop-again Inv-loop μ-loop
 loop-again c =
-    (read-on (c .before .before .before .before .before .before .before .before .before .before .before .before .before .before .before .before .before .before .before .before .before .before .before .before .before .before .before .loop .inv .0) (c .before .before .before .before .before .before .before .before .before .before .before .before .before .before .before .before .before .before .before .before .before .before .before .before .before .before .before .loop .inv .1 (c .before .before .before .before .before .before .before .before .before .before .before .before .before .before .before .before .before .before .before .before .before .before .before .before .before .before .loop-test .taken)) (c .before .before .before .before .before .before .before .before .before .before .before .before .before .before .before .before .before .one-window .ensures), c .left .ensures .2, search needs, search needs, search needs, search needs, search needs, search needs, search needs, search needs)
+    (one-more (c .before .before .before .before .before .before .before .before .before .before .before .before .before .before .before .before .before .before .before .before .before .before .before .before .before .before .before .loop .inv .0) (c .before .before .before .before .before .before .before .before .before .before .before .before .before .before .before .before .before .before .before .before .before .before .before .before .before .before .before .loop .inv .1 (c .before .before .before .before .before .before .before .before .before .before .before .before .before .before .before .before .before .before .before .before .before .before .before .before .before .before .loop-test .taken)) (c .before .before .before .before .before .before .before .before .before .before .before .before .before .before .before .before .before .one-window .ensures) (c .left .ensures .1), c .left .ensures .2, search needs, search needs, search needs, search needs, search needs, search needs, search needs, search needs)
 
 close-requires : tie.Need-close-requires Inv-loop μ-loop
 close-requires c κs = search needs
@@ -67,7 +67,17 @@ same-length-8 : tie.Need-same-length-8 Inv-loop μ-loop
 same-length-8 c = search needs
 
 returns : tie.Need-returns Inv-loop μ-loop
-returns c = record { read = c .before .before .before .before .before .loop .inv .0; out = c .before .before .before .before .before .loop .out; closed = c .before .before .close .ensures }
+returns c =
+    let last = c .before .before .before .before .before .loop in
+    let far = last .inv .0 in
+    record {
+      count = far .count;
+      windows = far .windows;
+      all = λ more. omega (arith, far .turns-left more, c .before .before .before .before .loop-test .left);
+      read = read-so-far (far .windows);
+      out = last .out;
+      closed = c .before .before .close .ensures;
+    }
 
 pub run-spec : {M : Type 1} → statement M
 run-spec =
