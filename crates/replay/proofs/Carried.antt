@@ -25,7 +25,8 @@ use Rattle.playback.specs.declared.Progress.{Progress}
 use Rattle.playback.specs.Windows.{Stands, Carries, closingRoom, closingText, unreadableText}
 use Rattle.playback.proofs.Turns.{carry-as}
 use Rattle.replay.specs.declared.Stand.{Stand}
-use Rattle.replay.specs.Played.{Played, wayOf, carried, onward, TakenIn, WindowTaken, Windows, ReadSoFar, LastLines}
+use Rattle.replay.specs.Plain.{GoesOn}
+use Rattle.replay.specs.Played.{Played, wayOf, carried, TakenIn, WindowTaken, Windows, ReadSoFar, LastLines}
 
 -- ---- From reset.
 
@@ -60,6 +61,11 @@ unfolding wayOf
 way-fine failed n q fine = rw (eq-eqb (q .at) n (way-taken failed n q fine)) refl
 
 -- A read that failed, one that gave nothing, and one that gave some bytes.
+unfoldable onward : ℤ → ℕ → ℕ
+onward (negsuc k) marked = 2
+onward (pos zero) marked = 1
+onward (pos (suc k)) marked = cond (eqb marked 6) 1 0
+
 way-onward : (got : ℤ) (most : ℕ) (q : Progress) → 0 < most → (wayOf (ltZ got (pos 0)) (clamped got most) q ≡ 3 → ⊥)
     → wayOf (ltZ got (pos 0)) (clamped got most) q ≡ onward got (q .marked)
 unfolding onward
@@ -68,6 +74,19 @@ way-onward (pos zero) most q room fine =
     way-fine false (min 0 most) q fine ∙ rw (eq-eqb (min 0 most) 0 (omega arith)) refl
 way-onward (pos (suc k)) most q room fine =
     way-fine (ltb (suc k) 0) (min (suc k) most) q fine ∙ rw (le-ltb (suc k) 0 (omega arith), ne-eqb (min (suc k) most) 0 (λ e. omega arith)) refl
+
+goes-on : {got : ℤ} {marked how : ℕ} → how ≡ onward got marked → GoesOn got marked how
+unfolding onward
+goes-on {got} {marked} {how} e =
+    record {
+      failed = λ same. of same;
+      ended = λ same. of same;
+      other = λ same six. of same ∙ rw (eq-eqb marked 6 six) refl;
+      more = λ same not-six. of same ∙ rw (ne-eqb marked 6 not-six) refl;
+    }
+  where
+    of : {g : ℤ} → got ≡ g → how ≡ onward g marked
+    of same = e ∙ ap (λ (h : ℤ). onward h marked) same
 
 -- ---- A window, and one behind others.
 
@@ -87,7 +106,7 @@ taken-in {s} {s'} {window} {kept} {kept'} {t} {t'} {from} {q} {got} {z} n answer
       goes-on =
           λ room fine.
           let as-counted : s' .how ≡ wayOf (ltZ got (pos 0)) (clamped got (length window)) q = how ∙ ap (λ (k : ℕ). wayOf (ltZ got (pos 0)) k q) counts in
-          as-counted ∙ way-onward got (length window) q room (λ e. fine (as-counted ∙ e)) ∙ ap (onward got) (sym m);
+          goes-on (as-counted ∙ way-onward got (length window) q room (λ e. fine (as-counted ∙ e)) ∙ ap (onward got) (sym m));
     }
 
 read-on : {s s' : Stand} {window kept kept' : List ℕ} {t t' : State} → ReadSoFar s kept t → s .how ≡ 0 → WindowTaken s kept t window s' kept' t'
@@ -144,9 +163,7 @@ none-put {s} three =
     record {
       text = [];
       put = record { ends = refl; exits = refl };
-      at-end = λ e. absurd (one-of s e three);
-      unread = λ one other. absurd (other three);
-      unwritten = λ e. refl;
+      lines = record { at-end = λ e. absurd (one-of s e three); unread = λ one other. absurd (other three); unwritten = λ e. refl };
     }
 
 -- Where no more could be read.
@@ -156,9 +173,12 @@ unread-put {s} {out} not-ended written put =
     record {
       text = unreadableText out;
       put = put;
-      at-end = λ e. absurd (not-ended e);
-      unread = λ one three room. rw (le-leb closingRoom (length out) room) refl;
-      unwritten = λ e. elim e [ inl three ↦ absurd (written three) | inr short ↦ rw (lt-leb closingRoom (length out) short) refl ];
+      lines =
+          record {
+            at-end = λ e. absurd (not-ended e);
+            unread = λ one three room. rw (le-leb closingRoom (length out) room) refl;
+            unwritten = λ e. elim e [ inl three ↦ absurd (written three) | inr short ↦ rw (lt-leb closingRoom (length out) short) refl ];
+          };
     }
 
 -- At the end of the file.
@@ -168,7 +188,10 @@ end-put {s} {out} {out'} {p} {size} one same put =
     record {
       text = closingText p out;
       put = put;
-      at-end = λ e. ap (λ (q : Progress). closingText q out) same;
-      unread = λ other. absurd (other one);
-      unwritten = λ e. elim e [ inl three ↦ absurd (one-of s one three) | inr short ↦ rw (lt-leb closingRoom (length out) short) refl ];
+      lines =
+          record {
+            at-end = λ e. ap (λ (q : Progress). closingText q out) same;
+            unread = λ other. absurd (other one);
+            unwritten = λ e. elim e [ inl three ↦ absurd (one-of s one three) | inr short ↦ rw (lt-leb closingRoom (length out) short) refl ];
+          };
     }

@@ -1,2 +1,3 @@
 -- What the program carries from window to window.
+pub mod Plain
 pub mod Played

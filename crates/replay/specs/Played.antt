@@ -1,12 +1,11 @@
 -- Rule 9.6: the program's windows, as far as a contract can speak of them: what was read is free,
 -- and so is whether a write succeeds.
-use Prim.Native.Nat.{ℕ, zero, suc, _+_, _≤_, _<_}
+use Prim.Native.Nat.{ℕ, _+_, _≤_, _<_}
 use mathlib.Core.Path.{_≡_}
-use mathlib.Core.Logic.{_⊎_}
 use mathlib.Core.Bool.{Bool, cond, _||_}
-use mathlib.Core.List.{List, [], _∷_}
+use mathlib.Core.List.{List}
 use lib.Dec.{eqb}
-use lib.IntN.{ℤ, pos, negsuc}
+use lib.IntN.{ℤ}
 use lib.ListN.{length, take}
 use Rattle.io.specs.Counts.{clamped}
 use Rattle.text.specs.Text.{Puts}
@@ -15,6 +14,7 @@ use Rattle.records.specs.Session.{spoiled, fileRun}
 use Rattle.playback.specs.declared.Progress.{Progress}
 use Rattle.playback.specs.Windows.{Stands, Carries, progress, closingText}
 use Rattle.replay.specs.declared.Stand.{Stand}
+use Rattle.replay.specs.Plain.{GoesOn, LastText}
 
 -- As much of a window as fills the output: nothing counts as taken where its lines could not be
 -- written.
@@ -53,18 +53,11 @@ wayOf failed n p =
 abbrev pub carried : Stand → Progress
 carried s = progress 0 0 (s .marked) (s .number) (s .have)
 
--- Rules 9.4 and 9.7: how it goes on behind what a read answered, with so much of the mark: 2 where
--- it failed; 1 where it gave nothing, or where this is no session; else 0, with another window.
-unfoldable pub onward : ℤ → ℕ → ℕ
-onward (negsuc k) marked = 2
-onward (pos zero) marked = 1
-onward (pos (suc k)) marked = cond (eqb marked 6) 1 0
-
 -- A read has answered `got`: unless a write failed, all bytes that it gave have taken on what is
 -- carried, and it goes on as the answer says. A window has room for some bytes.
 pub record TakenIn (s : Stand) (got : ℤ) (window kept : List ℕ) (t : State) (s' : Stand) (kept' : List ℕ) (t' : State) : Type 0 where
   pub taken : (s' .how ≡ 3 → ⊥) → Carries (take (clamped got (length window)) window) (carried s) kept t (carried s') kept' t'
-  pub goes-on : 0 < length window → (s' .how ≡ 3 → ⊥) → s' .how ≡ onward got (s' .marked)
+  pub goes-on : 0 < length window → (s' .how ≡ 3 → ⊥) → GoesOn got (s' .marked) (s' .how)
 
 -- A window was read; what the read answered is free.
 pub record WindowTaken (s : Stand) (kept : List ℕ) (t : State) (window : List ℕ) (s' : Stand) (kept' : List ℕ) (t' : State) : Type 0 where
@@ -84,16 +77,11 @@ pub record ReadSoFar (s : Stand) (kept : List ℕ) (t : State) : Type 0 where
   pub bytes : List ℕ
   pub stands : (s .how ≡ 3 → ⊥) → Stands resetState (fileRun bytes) (carried s) kept t
 
--- Rules 9.3, 9.4 and 9.7: the last lines, which so many bytes at the start of the output are. At
--- the end of a file they are what is printed behind the last record; nothing behind a write that
--- failed; else, where no more could be read, `unreadable`. Fewer than 50 bytes are no room.
+-- The last lines are so many bytes at the start of the output, which else is as it was.
 pub record LastLines (s : Stand) (out out' : List ℕ) (size : ℕ) : Type 0 where
   pub text : List ℕ
   pub put : Puts 0 text out out' size
-  pub at-end : s .how ≡ 1 → text ≡ closingText (carried s) out
-  pub unread : (s .how ≡ 1 → ⊥) → (s .how ≡ 3 → ⊥) → 50 ≤ length out
-      → text ≡ 117 ∷ 110 ∷ 114 ∷ 101 ∷ 97 ∷ 100 ∷ 97 ∷ 98 ∷ 108 ∷ 101 ∷ 10 ∷ []
-  pub unwritten : (s .how ≡ 3) ⊎ (length out < 50) → text ≡ []
+  pub lines : LastText (s .how) (length out) (closingText (carried s) out) text
 
 -- They were put, and handed over to be written.
 pub record Closed (s : Stand) (out out' : List ℕ) : Type 0 where
