@@ -6,7 +6,7 @@ use mathlib.Core.Bool.{Bool, true, false, cond, _||_}
 use mathlib.Core.List.{List, [], _++_}
 use native.Mathlib.Decide.{ℕ-discrete}
 use native.Mathlib.Omega.{arith}
-use borrow.Author.Tests.{eq-eqb, ne-eqb, le-leb, lt-leb, le-ltb}
+use borrow.Author.Tests.{eq-eqb, ne-eqb, le-leb, lt-leb, lt-ltb, le-ltb}
 use lib.Dec.{eqb, ltb}
 use lib.IntN.{ℤ, pos, negsuc}
 use lib.Signed.{ltZ}
@@ -20,13 +20,18 @@ use Rattle.controller.specs.Plain.{StateLent}
 use Rattle.controller.specs.Demands.{Resets}
 use Rattle.controller.proofs.Demands.{state-lent}
 use Rattle.records.specs.Session.{Run, taken, spoiled, fileRun, start}
+use Rattle.records.specs.Plain.{Marked}
 use Rattle.records.proofs.Runs.{taken-append}
+use Rattle.records.proofs.File.{file-read}
 use Rattle.playback.specs.declared.Progress.{Progress}
-use Rattle.playback.specs.Windows.{Stands, Carries, closingRoom, closingText, unreadableText}
+use Rattle.playback.specs.Windows.{Stands, Carries, mostRecords, closingRoom, closingText, unreadableText}
+use Rattle.playback.specs.Replay.{«lines» as linesOf, «closing» as closingOf, textOf, replayText, stateAfterRecords, endState}
+use Rattle.playback.specs.Plain.{Counted, Countable, Printed}
 use Rattle.playback.proofs.Turns.{carry-as}
+use Rattle.playback.proofs.Plain.{«printed» as file-printed}
 use Rattle.replay.specs.declared.Stand.{Stand}
-use Rattle.replay.specs.Plain.{GoesOn}
-use Rattle.replay.specs.Played.{Played, wayOf, carried, TakenIn, WindowTaken, Windows, ReadSoFar, LastLines}
+use Rattle.replay.specs.Plain.{given, GoesOn, Reads, RunPlain}
+use Rattle.replay.specs.Played.{Played, wayOf, carried, onward, TakenIn, WindowTaken, LastLines, Closed}
 
 -- ---- From reset.
 
@@ -34,18 +39,14 @@ pub from-reset : {s : State} {o : ResetOut} → Resets s o → StateLent s → o
 unfolding reset
 from-reset {s} {o} r l = ap (λ (x : ResetOut). x .state) (r .outcome) ∙ rw (state-lent s .1 l) refl
 
-read-none : (s : Stand) (kept : List ℕ) (t : State) → t ≡ resetState → s .marked ≡ 0 → s .number ≡ 0 → s .have ≡ 0 → ReadSoFar s kept t
+stands-none : (s : Stand) (kept : List ℕ) (t : State) → t ≡ resetState → s .marked ≡ 0 → s .number ≡ 0 → s .have ≡ 0
+    → Stands resetState (fileRun []) (carried s) kept t
 unfolding stateAfterAll taken fileRun
-read-none s kept t e m n h =
+stands-none s kept t e m n h =
     record {
-      bytes = [];
-      stands =
-          λ fine.
-          record {
-            reader = record { mark-bytes = m; record-bytes = h; record-front = rw h refl; record-cut = record { short = λ two. omega arith } };
-            number = n;
-            state = e;
-          };
+      reader = record { mark-bytes = m; record-bytes = h; record-front = rw h refl; record-cut = record { short = λ two. omega arith } };
+      number = n;
+      state = e;
     }
 
 -- ---- How it goes on.
@@ -61,11 +62,6 @@ unfolding wayOf
 way-fine failed n q fine = rw (eq-eqb (q .at) n (way-taken failed n q fine)) refl
 
 -- A read that failed, one that gave nothing, and one that gave some bytes.
-unfoldable onward : ℤ → ℕ → ℕ
-onward (negsuc k) marked = 2
-onward (pos zero) marked = 1
-onward (pos (suc k)) marked = cond (eqb marked 6) 1 0
-
 way-onward : (got : ℤ) (most : ℕ) (q : Progress) → 0 < most → (wayOf (ltZ got (pos 0)) (clamped got most) q ≡ 3 → ⊥)
     → wayOf (ltZ got (pos 0)) (clamped got most) q ≡ onward got (q .marked)
 unfolding onward
@@ -75,14 +71,22 @@ way-onward (pos zero) most q room fine =
 way-onward (pos (suc k)) most q room fine =
     way-fine (ltb (suc k) 0) (min (suc k) most) q fine ∙ rw (le-ltb (suc k) 0 (omega arith), ne-eqb (min (suc k) most) 0 (λ e. omega arith)) refl
 
-goes-on : {got : ℤ} {marked how : ℕ} → how ≡ onward got marked → GoesOn got marked how
+-- A file whose mark is spoiled is no session.
+not-marked : (bytes : List ℕ) (marked : ℕ) → marked ≡ fileRun bytes .marked → marked ≡ spoiled → Marked bytes → ⊥
+not-marked bytes marked e six mark = omega (arith, e, six, file-read bytes .session .1 mark)
+
+goes-on : {got : ℤ} {bytes : List ℕ} {marked how : ℕ} → how ≡ onward got marked → marked ≡ fileRun bytes .marked → GoesOn got bytes how
 unfolding onward
-goes-on {got} {marked} {how} e =
+goes-on {got} {bytes} {marked} {how} e read =
     record {
       failed = λ same. of same;
       ended = λ same. of same;
-      other = λ same six. of same ∙ rw (eq-eqb marked 6 six) refl;
-      more = λ same not-six. of same ∙ rw (ne-eqb marked 6 not-six) refl;
+      some =
+          λ same.
+          elim (ℕ-discrete marked spoiled) [
+            | yes six ↦ inr (of same ∙ rw (eq-eqb marked spoiled six) refl, not-marked bytes marked read six)
+            | no other ↦ inl (of same ∙ rw (ne-eqb marked spoiled other) refl)
+          ];
     }
   where
     of : {g : ℤ} → got ≡ g → how ≡ onward g marked
@@ -106,28 +110,18 @@ taken-in {s} {s'} {window} {kept} {kept'} {t} {t'} {from} {q} {got} {z} n answer
       goes-on =
           λ room fine.
           let as-counted : s' .how ≡ wayOf (ltZ got (pos 0)) (clamped got (length window)) q = how ∙ ap (λ (k : ℕ). wayOf (ltZ got (pos 0)) k q) counts in
-          goes-on (as-counted ∙ way-onward got (length window) q room (λ e. fine (as-counted ∙ e)) ∙ ap (onward got) (sym m));
-    }
-
-read-on : {s s' : Stand} {window kept kept' : List ℕ} {t t' : State} → ReadSoFar s kept t → s .how ≡ 0 → WindowTaken s kept t window s' kept' t'
-    → ReadSoFar s' kept' t'
-unfolding fileRun
-read-on {s} {s'} {window} {kept} {kept'} {t} {t'} x more w =
-    let given : List ℕ = take (clamped (w .got) (length window)) window in
-    record {
-      bytes = x .bytes ++ given;
-      stands =
-          λ fine.
-          subst (λ (r : Run). Stands resetState r (carried s') kept' t') (sym (taken-append start (x .bytes) given))
-          (w .answered .taken fine .stands resetState (fileRun (x .bytes)) (x .stands (λ e. omega arith)));
+          as-counted ∙ way-onward got (length window) q room (λ e. fine (as-counted ∙ e)) ∙ ap (onward got) (sym m);
     }
 
 -- ---- Window after window.
 
--- So many windows, and so many turns are left, if it goes on.
+-- So many reads and their bytes, for which what is carried stands; and so many turns are left, if
+-- it goes on.
 pub record SoFar (s : Stand) (kept : List ℕ) (t : State) (turns : ℕ) : Type 0 where
   pub count : ℕ
-  pub windows : Windows count s kept t
+  pub bytes : List ℕ
+  pub reads : Reads count (s .how) bytes
+  pub stands : (s .how ≡ 3 → ⊥) → Stands resetState (fileRun bytes) (carried s) kept t
   pub turns-left : s .how ≡ 0 → count + turns ≡ 18446744073709551615
 
 pub start-of : {s : Stand} {kept : List ℕ} {t : State} → t ≡ resetState → s .marked ≡ 0 → s .number ≡ 0 → s .have ≡ 0 → s .how ≡ 0
@@ -135,22 +129,30 @@ pub start-of : {s : Stand} {kept : List ℕ} {t : State} → t ≡ resetState �
 start-of {s} {kept} {t} e m n h w =
     record {
       count = 0;
-      windows = subst (λ (u : State). Windows 0 s kept u) (sym e) (Windows.none m n h w);
+      bytes = [];
+      reads = subst (λ (k : ℕ). Reads 0 k []) (sym w) Reads.none;
+      stands = λ fine. stands-none s kept t e m n h;
       turns-left = λ z. refl;
     }
 
 pub one-more : {s s' : Stand} {window kept kept' : List ℕ} {t t' : State} {turns turns' : ℕ} → SoFar s kept t turns → s .how ≡ 0
     → WindowTaken s kept t window s' kept' t' → (s' .how ≡ 0 → turns' + 1 ≡ turns) → SoFar s' kept' t' turns'
-one-more x more w left =
+unfolding fileRun
+one-more {s} {s'} {window} {kept} {kept'} {t} {t'} x more w left =
     record {
-      count = x .count + 1;
-      windows = Windows.next (x .windows) more w;
+      count = suc (x .count);
+      bytes = x .bytes ++ given (w .got) window;
+      reads =
+          Reads.next (w .got) window (subst (λ (k : ℕ). Reads (x .count) k (x .bytes)) more (x .reads))
+          (λ fine room. goes-on (w .answered .goes-on room fine) (stands fine .reader .mark-bytes));
+      stands = stands;
       turns-left = λ z. omega (arith, x .turns-left more, left z);
     }
-
-pub read-so-far : {n : ℕ} {s : Stand} {kept : List ℕ} {t : State} → Windows n s kept t → ReadSoFar s kept t
-read-so-far {s = s} {kept = kept} (Windows.none m n h w) = read-none s kept resetState refl m n h
-read-so-far (Windows.next before more w) = read-on (read-so-far before) more w
+  where
+    stands : (s' .how ≡ 3 → ⊥) → Stands resetState (fileRun (x .bytes ++ given (w .got) window)) (carried s') kept' t'
+    stands fine =
+        subst (λ (r : Run). Stands resetState r (carried s') kept' t') (sym (taken-append start (x .bytes) (given (w .got) window)))
+        (w .answered .taken fine .stands resetState (fileRun (x .bytes)) (x .stands (λ e. omega arith)))
 
 -- ---- The last lines, case by case.
 
@@ -163,7 +165,7 @@ none-put {s} three =
     record {
       text = [];
       put = record { ends = refl; exits = refl };
-      lines = record { at-end = λ e. absurd (one-of s e three); unread = λ one other. absurd (other three); unwritten = λ e. refl };
+      lines = record { at-end = λ e room. absurd (one-of s e three); unread = λ one other. absurd (other three); unwritten = λ e. refl };
     }
 
 -- Where no more could be read.
@@ -175,7 +177,7 @@ unread-put {s} {out} not-ended written put =
       put = put;
       lines =
           record {
-            at-end = λ e. absurd (not-ended e);
+            at-end = λ e room. absurd (not-ended e);
             unread = λ one three room. rw (le-leb closingRoom (length out) room) refl;
             unwritten = λ e. elim e [ inl three ↦ absurd (written three) | inr short ↦ rw (lt-leb closingRoom (length out) short) refl ];
           };
@@ -190,8 +192,56 @@ end-put {s} {out} {out'} {p} {size} one same put =
       put = put;
       lines =
           record {
-            at-end = λ e. ap (λ (q : Progress). closingText q out) same;
+            at-end = λ e room. ap (λ (q : Progress). closingText q out) same;
             unread = λ other. absurd (other one);
             unwritten = λ e. elim e [ inl three ↦ absurd (one-of s one three) | inr short ↦ rw (lt-leb closingRoom (length out) short) refl ];
           };
+    }
+
+-- ---- The whole run.
+
+-- The records of a file that can be counted are few enough, and of no session there are none.
+few-records : (bytes : List ℕ) → Countable bytes → Counted (length (fileRun bytes .whole))
+few-records bytes few =
+    let read = file-read bytes in
+    elim (ℕ-discrete (fileRun bytes .marked) 5) [
+      | yes five ↦ few (fileRun bytes .whole) (fileRun bytes .under) (read .splits (read .session .0 five))
+      | no other ↦ rw (read .none (λ mark. other (read .session .1 mark))) (omega arith)
+    ]
+
+text-printed : {t : State} (bytes : List ℕ) → Countable bytes → t ≡ stateAfterRecords (fileRun bytes .whole) resetState
+    → Printed bytes (linesOf 0 (fileRun bytes .whole) resetState ++ closingOf (fileRun bytes .marked) (length (fileRun bytes .whole)) (length (fileRun bytes .under))) t
+unfolding replayText textOf endState
+text-printed bytes few e = rw e (file-printed bytes few)
+
+closing-is : (s : Stand) {kept : List ℕ} {t : State} (bytes out : List ℕ) → Stands resetState (fileRun bytes) (carried s) kept t → Countable bytes
+    → closingRoom ≤ length out
+    → closingText (carried s) out ≡ closingOf (fileRun bytes .marked) (length (fileRun bytes .whole)) (length (fileRun bytes .under))
+closing-is s bytes out stands few room =
+    let number : s .number < mostRecords = omega (arith, stands .number, few-records bytes few) in
+    rw (le-leb closingRoom (length out) room, lt-ltb (s .number) mostRecords number, stands .reader .mark-bytes, stands .number, stands .reader .record-bytes) refl
+
+pub ran : {last : Stand} {kept out out' : List ℕ} {t : State} {turns : ℕ} → SoFar last kept t turns → turns ≡ 0 → Closed last out out'
+    → RunPlain (last .how) t out'
+ran {last} {kept} {out} far done closed =
+    let r : Run = fileRun (far .bytes) in
+    let text = closed .lines in
+    record {
+      count = far .count;
+      bytes = far .bytes;
+      reads = far .reads;
+      stops = λ more. omega (arith, far .turns-left more, done);
+      lines = linesOf 0 (r .whole) resetState;
+      closing = closingOf (r .marked) (length (r .whole)) (length (r .under));
+      printed = λ fine few. text-printed (far .bytes) few (far .stands fine .state);
+      out = out;
+      text = text .text;
+      last =
+          λ few.
+          record {
+            at-end = λ one room. text .lines .at-end one room ∙ closing-is last (far .bytes) out (far .stands (λ three. one-of last one three)) few room;
+            unread = text .lines .unread;
+            unwritten = text .lines .unwritten;
+          };
+      put = text .put .exits;
     }

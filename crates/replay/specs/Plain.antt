@@ -1,23 +1,58 @@
--- Rules 9.4 and 9.7: how the program goes on behind a read, and its last lines, with the numbers
--- themselves. It goes on with another window (0), is at the file's end (1), can't read (2) or can't
--- write (3).
+-- Rules 9.2 to 9.7: what the program does, with the numbers themselves. What a read answers and
+-- puts into a window is free, and so is whether a write succeeds. It goes on with another read (0),
+-- is at the file's end (1), can't read (2) or can't write (3).
 use Prim.Native.Nat.{ℕ, suc, _≤_, _<_}
 use mathlib.Core.Path.{_≡_}
 use mathlib.Core.Logic.{_⊎_}
-use mathlib.Core.List.{List, [], _∷_}
+use mathlib.Core.List.{List, [], _∷_, _++_}
 use lib.IntN.{ℤ, pos, negsuc}
+use lib.ListN.{length, take}
+use lib.Seq.{sets}
+use Rattle.io.specs.Counts.{clamped}
+use Rattle.controller.specs.State.{State}
+use Rattle.records.specs.Plain.{Marked}
+use Rattle.playback.specs.Plain.{Countable, Printed}
 
--- Behind what a read answered, unless a write failed. A read that fails, one that gives nothing,
--- and one that gives some bytes: with `marked` 6 the file is no session, and need not be read on.
-pub record GoesOn (got : ℤ) (marked how : ℕ) : Type 0 where
+-- The bytes that a read gave: as many as it answered, at the start of the window.
+abbrev pub given : ℤ → List ℕ → List ℕ
+given got window = take (clamped got (length window)) window
+
+-- Rules 9.4 and 9.7: how it goes on behind a read, with these bytes read. A read that fails; one
+-- that gives nothing, which is the file's end; and one that gives some: a file that is no session
+-- need not be read to its end.
+pub record GoesOn (got : ℤ) (bytes : List ℕ) (how : ℕ) : Type 0 where
   pub failed : {k : ℕ} → got ≡ negsuc k → how ≡ 2
   pub ended : got ≡ pos 0 → how ≡ 1
-  pub other : {k : ℕ} → got ≡ pos (suc k) → marked ≡ 6 → how ≡ 1
-  pub more : {k : ℕ} → got ≡ pos (suc k) → (marked ≡ 6 → ⊥) → how ≡ 0
+  pub some : {k : ℕ} → got ≡ pos (suc k) → (how ≡ 0) ⊎ ((how ≡ 1) × (Marked bytes → ⊥))
+
+-- So many reads, one after another while it goes on, how it goes on behind the last of them, and
+-- the bytes that they gave. Where a write failed it does not go on.
+pub data Reads : ℕ → ℕ → List ℕ → Type 0 where
+  none : Reads 0 0 []
+  next : {n how : ℕ} {bytes : List ℕ} (got : ℤ) (window : List ℕ) → Reads n 0 bytes
+      → ((how ≡ 3 → ⊥) → 0 < length window → GoesOn got (bytes ++ given got window) how) → Reads (suc n) how (bytes ++ given got window)
 
 -- The last lines, with room for so many bytes: at the end of a file what is printed behind the last
 -- record; nothing behind a write that failed; else `unreadable`. Fewer than 50 bytes are no room.
 pub record LastText (how room : ℕ) (closing text : List ℕ) : Type 0 where
-  pub at-end : how ≡ 1 → text ≡ closing
+  pub at-end : how ≡ 1 → 50 ≤ room → text ≡ closing
   pub unread : (how ≡ 1 → ⊥) → (how ≡ 3 → ⊥) → 50 ≤ room → text ≡ 117 ∷ 110 ∷ 114 ∷ 101 ∷ 97 ∷ 100 ∷ 97 ∷ 98 ∷ 108 ∷ 101 ∷ 10 ∷ []
   pub unwritten : (how ≡ 3) ⊎ (room < 50) → text ≡ []
+
+-- A run, from reset: how it stands, the state, and the output at its end.
+pub record RunPlain (how : ℕ) (t : State) (out' : List ℕ) : Type 0 where
+  pub count : ℕ
+  pub bytes : List ℕ
+  pub reads : Reads count how bytes
+  -- There is no other reason to stop, but for 2^64 - 1 reads.
+  pub stops : how ≡ 0 → count ≡ 18446744073709551615
+  -- Unless a write failed, the state is that of the bytes read, and what closes their text is
+  -- `closing`.
+  pub lines : List ℕ
+  pub closing : List ℕ
+  pub printed : (how ≡ 3 → ⊥) → Countable bytes → Printed bytes (lines ++ closing) t
+  -- The last lines stand at the start of the output, which else is as it was.
+  pub out : List ℕ
+  pub text : List ℕ
+  pub last : Countable bytes → LastText how (length out) closing text
+  pub put : out' ≡ sets out 0 text

@@ -1,20 +1,19 @@
 -- Rule 9.6: the program's windows, as far as a contract can speak of them: what was read is free,
 -- and so is whether a write succeeds.
-use Prim.Native.Nat.{ℕ, _+_, _≤_, _<_}
+use Prim.Native.Nat.{ℕ, zero, suc, _≤_, _<_}
 use mathlib.Core.Path.{_≡_}
 use mathlib.Core.Bool.{Bool, cond, _||_}
 use mathlib.Core.List.{List}
 use lib.Dec.{eqb}
-use lib.IntN.{ℤ}
+use lib.IntN.{ℤ, pos, negsuc}
 use lib.ListN.{length, take}
-use Rattle.io.specs.Counts.{clamped}
 use Rattle.text.specs.Text.{Puts}
-use Rattle.controller.specs.State.{State, resetState}
-use Rattle.records.specs.Session.{spoiled, fileRun}
+use Rattle.controller.specs.State.{State}
+use Rattle.records.specs.Session.{spoiled}
 use Rattle.playback.specs.declared.Progress.{Progress}
-use Rattle.playback.specs.Windows.{Stands, Carries, progress, closingText}
+use Rattle.playback.specs.Windows.{Carries, progress, closingText}
 use Rattle.replay.specs.declared.Stand.{Stand}
-use Rattle.replay.specs.Plain.{GoesOn, LastText}
+use Rattle.replay.specs.Plain.{given, LastText}
 
 -- As much of a window as fills the output: nothing counts as taken where its lines could not be
 -- written.
@@ -53,29 +52,22 @@ wayOf failed n p =
 abbrev pub carried : Stand → Progress
 carried s = progress 0 0 (s .marked) (s .number) (s .have)
 
+-- How it goes on behind what a read answered, with so much of the mark.
+unfoldable pub onward : ℤ → ℕ → ℕ
+onward (negsuc k) marked = unreadable
+onward (pos zero) marked = ended
+onward (pos (suc k)) marked = cond (eqb marked spoiled) ended more
+
 -- A read has answered `got`: unless a write failed, all bytes that it gave have taken on what is
 -- carried, and it goes on as the answer says. A window has room for some bytes.
 pub record TakenIn (s : Stand) (got : ℤ) (window kept : List ℕ) (t : State) (s' : Stand) (kept' : List ℕ) (t' : State) : Type 0 where
-  pub taken : (s' .how ≡ 3 → ⊥) → Carries (take (clamped got (length window)) window) (carried s) kept t (carried s') kept' t'
-  pub goes-on : 0 < length window → (s' .how ≡ 3 → ⊥) → GoesOn got (s' .marked) (s' .how)
+  pub taken : (s' .how ≡ 3 → ⊥) → Carries (given got window) (carried s) kept t (carried s') kept' t'
+  pub goes-on : 0 < length window → (s' .how ≡ 3 → ⊥) → s' .how ≡ onward got (s' .marked)
 
 -- A window was read; what the read answered is free.
 pub record WindowTaken (s : Stand) (kept : List ℕ) (t : State) (window : List ℕ) (s' : Stand) (kept' : List ℕ) (t' : State) : Type 0 where
   pub got : ℤ
   pub answered : TakenIn s got window kept t s' kept' t'
-
--- Rule 9.6: so many windows, the first from reset, and each on what the one before it carries; it
--- went on behind each but the last.
-pub data Windows : ℕ → Stand → List ℕ → State → Type 0 where
-  none : {s : Stand} {kept : List ℕ} → s .marked ≡ 0 → s .number ≡ 0 → s .have ≡ 0 → s .how ≡ 0 → Windows 0 s kept resetState
-  next : {n : ℕ} {s s' : Stand} {window kept kept' : List ℕ} {t t' : State} → Windows n s kept t → s .how ≡ 0
-      → WindowTaken s kept t window s' kept' t' → Windows (n + 1) s' kept' t'
-
--- Rule 9.6: unless a write failed, what is carried stands for the bytes read so far, replayed from
--- reset.
-pub record ReadSoFar (s : Stand) (kept : List ℕ) (t : State) : Type 0 where
-  pub bytes : List ℕ
-  pub stands : (s .how ≡ 3 → ⊥) → Stands resetState (fileRun bytes) (carried s) kept t
 
 -- The last lines are so many bytes at the start of the output, which else is as it was.
 pub record LastLines (s : Stand) (out out' : List ℕ) (size : ℕ) : Type 0 where
@@ -87,15 +79,3 @@ pub record LastLines (s : Stand) (out out' : List ℕ) (size : ℕ) : Type 0 whe
 pub record Closed (s : Stand) (out out' : List ℕ) : Type 0 where
   pub size : ℕ
   pub lines : LastLines s out out' size
-
--- Rules 9.2 to 9.7: the whole run, from reset: window after window, and no end but that of the
--- file, a failure, or 2^64 - 1 windows. Unless a write failed, what is carried at the end stands
--- for some bytes, those that were read; and the lines behind the last record are those of what is
--- carried.
-pub record Ran (last : Stand) (kept : List ℕ) (t : State) (out' : List ℕ) : Type 0 where
-  pub count : ℕ
-  pub windows : Windows count last kept t
-  pub all : last .how ≡ 0 → count ≡ 18446744073709551615
-  pub read : ReadSoFar last kept t
-  pub out : List ℕ
-  pub closed : Closed last out out'

@@ -11,7 +11,8 @@ ghost use Prim.Native.Nat.{_+_, _≤_, _<_};
 ghost use mathlib.Core.Path.{_≡_};
 ghost use lib.ListN.{length};
 ghost use Rattle.controller.specs.State.{state, resetState};
-ghost use Rattle.replay.specs.Played.{PlayedSome, Played, wayOf, carried, TakenIn, WindowTaken, LastLines, Closed, Ran};
+ghost use Rattle.replay.specs.Played.{PlayedSome, Played, wayOf, carried, TakenIn, WindowTaken, LastLines, Closed};
+ghost use Rattle.replay.specs.Plain.{RunPlain};
 
 // As much as a pipe holds.
 const WINDOW_SIZE: usize = 65536;
@@ -70,7 +71,7 @@ fn run(
     out: &mut [u8],
 ) -> Stand
     requires { ⌜ state (now block) (now staged) (now live) (now gains) ≡ resetState ⌝ }
-    ensures { λ r. ⌜ Ran r (now (kept .exit)) (state (now (block .exit)) (now (staged .exit)) (now (live .exit)) (now (gains .exit))) (now (out .exit)) ⌝ }
+    ensures { λ r. ⌜ RunPlain (r .how) (state (now (block .exit)) (now (staged .exit)) (now (live .exit)) (now (gains .exit))) (now (out .exit)) ⌝ }
 {
     let mut s = Stand {
         marked: 0,

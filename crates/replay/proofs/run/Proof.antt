@@ -1,6 +1,6 @@
 use Prim.Native.Nat.{_<_}
 use Rattle.controller.specs.State.{state}
-use Rattle.replay.proofs.Carried.{SoFar, start-of, one-more, read-so-far}
+use Rattle.replay.proofs.Carried.{SoFar, start-of, one-more, ran}
 use native.Mathlib.Omega.{arith}
 use mathlib.Core.Path.{_≡_, refl}
 use lib.ListN.{length}
@@ -68,16 +68,7 @@ same-length-8 c = search needs
 
 returns : tie.Need-returns Inv-loop μ-loop
 returns c =
-    let last = c .before .before .before .before .before .loop in
-    let far = last .inv .0 in
-    record {
-      count = far .count;
-      windows = far .windows;
-      all = λ more. omega (arith, far .turns-left more, c .before .before .before .before .loop-test .left);
-      read = read-so-far (far .windows);
-      out = last .out;
-      closed = c .before .before .close .ensures;
-    }
+    ran (c .before .before .before .before .before .loop .inv .0) (omega (arith, c .before .before .before .before .loop-test .left)) (c .before .before .close .ensures)
 
 pub run-spec : {M : Type 1} → statement M
 run-spec =
