@@ -1,5 +1,6 @@
--- What is promised of the row mark, section 11, with every place as a number: when it is right, what each packet does to it, and that nothing else depends
--- on it. Said apart from the pass by which the front end goes (Mark).
+-- What is promised of the row mark, section 11, with every place as a number: when it is right, what
+-- each packet does to it, and what it means that nothing else depends on it. Said apart from the
+-- pass by which the front end goes (Mark).
 use Prim.Native.Nat.{ℕ, _+_, _-_, _*_, _/_, _<_}
 use mathlib.Core.Path.{_≡_}
 use mathlib.Core.Logic.{_↔_}

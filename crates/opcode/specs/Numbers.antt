@@ -1,5 +1,5 @@
--- Which of the refusals 7 to 11 a command gets, said from the rules and not by way of the tests: of each number what it means, and what is known where it was passed.
--- Elements are bytes.
+-- What the refusals 7, 8, 9 and 11 of a command mean, said from the rules and not by way of the
+-- tests. Elements are bytes.
 use Prim.Native.Nat.{ℕ, _+_, _*_, _≤_, _<_}
 use mathlib.Core.Path.{_≡_}
 use mathlib.Core.Logic.{_⊎_}

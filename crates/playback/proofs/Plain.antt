@@ -56,7 +56,7 @@ recounts n (p ∷ ps) s few =
     (recounts (n + 1) ps (step p s replyBuffer .state) (omega arith))
 
 -- Rule 9.3.
-closes : (number have : ℕ) → number < 18446744073709551615 → Closes number have (closing 5 number have)
+pub closes : (number have : ℕ) → number < 18446744073709551615 → Closes number have (closing 5 number have)
 unfolding closing
 closes number have few = go (eqb have 0) refl
   where

@@ -22,8 +22,9 @@ pub data Called (from : Progress) (kept : List ℕ) (s : State) : List ℕ → L
       → WindowReplayed window p kept' s' reply out q kept'' s'' reply' out'
       → Called from kept s (bytes ++ take (q .at) window) (text ++ take (q .size) out') q kept'' s''
 
--- Rules 9.2 to 9.6: what they have put, and behind it what `finish` puts, is the text of the bytes that they took, and the state is their end state; each line has
--- its form; and a call that is lent room takes some of its window.
+-- Rules 9.2 to 9.6: what they have put, and behind it what `finish` is to put (`closingText`), is the
+-- text of the bytes that they took, and the state is their end state; each line has its form; and a
+-- call that is lent room takes some of its window.
 pub record WholeText (bytes text : List ℕ) (p : Progress) (kept : List ℕ) (s : State) : Type 0 where
   pub printed : (out : List ℕ) → 50 ≤ length out → Counted (p .number) → text ++ closingText p out ≡ replayText bytes
   pub state : s ≡ endState bytes

@@ -26,11 +26,12 @@ use Rattle.records.proofs.File.{file-read}
 use Rattle.playback.specs.declared.Progress.{Progress}
 use Rattle.playback.specs.Windows.{Stands, Carries, mostRecords, closingRoom, closingText, unreadableText}
 use Rattle.playback.specs.Replay.{«lines» as linesOf, «closing» as closingOf, textOf, replayText, stateAfterRecords, endState}
-use Rattle.playback.specs.Plain.{Counted, Countable, Printed}
+use Rattle.playback.specs.Plain.{Counted, Countable, Closes, Printed}
 use Rattle.playback.proofs.Turns.{carry-as}
-use Rattle.playback.proofs.Plain.{«printed» as file-printed}
+use Rattle.playback.proofs.Files.{closing-none}
+use Rattle.playback.proofs.Plain.{closes, «printed» as file-printed}
 use Rattle.replay.specs.declared.Stand.{Stand}
-use Rattle.replay.specs.Plain.{given, GoesOn, Reads, RunPlain}
+use Rattle.replay.specs.Plain.{given, GoesOn, Reads, Closing, RunPlain}
 use Rattle.replay.specs.Played.{Played, wayOf, carried, onward, TakenIn, WindowTaken, LastLines, Closed}
 
 -- ---- From reset.
@@ -214,6 +215,21 @@ text-printed : {t : State} (bytes : List ℕ) → Countable bytes → t ≡ stat
 unfolding replayText textOf endState
 text-printed bytes few e = rw e (file-printed bytes few)
 
+closes-it : (bytes : List ℕ) → Countable bytes
+    → Closing bytes (closingOf (fileRun bytes .marked) (length (fileRun bytes .whole)) (length (fileRun bytes .under)))
+closes-it bytes few =
+    let r : Run = fileRun bytes in
+    let read = file-read bytes in
+    elim (ℕ-discrete (r .marked) 5) [
+      | yes five ↦
+          let mark = read .session .0 five in
+          Closing.session mark (read .splits mark)
+          (subst (λ (m : ℕ). Closes (length (r .whole)) (length (r .under)) (closingOf m (length (r .whole)) (length (r .under)))) (sym five)
+          (closes (length (r .whole)) (length (r .under)) (few-records bytes few)))
+      | no wrong ↦
+          rw (closing-none (r .marked) (length (r .whole)) (length (r .under)) wrong) (Closing.other (λ mark. wrong (read .session .1 mark)))
+    ]
+
 closing-is : (s : Stand) {kept : List ℕ} {t : State} (bytes out : List ℕ) → Stands resetState (fileRun bytes) (carried s) kept t → Countable bytes
     → closingRoom ≤ length out
     → closingText (carried s) out ≡ closingOf (fileRun bytes .marked) (length (fileRun bytes .whole)) (length (fileRun bytes .under))
@@ -234,6 +250,7 @@ ran {last} {kept} {out} far done closed =
       lines = linesOf 0 (r .whole) resetState;
       closing = closingOf (r .marked) (length (r .whole)) (length (r .under));
       printed = λ fine few. text-printed (far .bytes) few (far .stands fine .state);
+      closes = closes-it (far .bytes);
       out = out;
       text = text .text;
       last =

@@ -1,17 +1,18 @@
 -- Rules 9.2 to 9.7: what the program does, with the numbers themselves. What a read answers and
 -- puts into a window is free, and so is whether a write succeeds. It goes on with another read (0),
--- is at the file's end (1), can't read (2) or can't write (3).
+-- is at the file's end (1), can't read (2) or can't write (3), which also stands for an output without
+-- room for a line, or a record too many to be counted.
 use Prim.Native.Nat.{ℕ, suc, _≤_, _<_}
 use mathlib.Core.Path.{_≡_}
 use mathlib.Core.Logic.{_⊎_}
 use mathlib.Core.List.{List, [], _∷_, _++_}
 use lib.IntN.{ℤ, pos, negsuc}
-use lib.ListN.{length, take}
+use lib.ListN.{length, take, drop}
 use lib.Seq.{sets}
 use Rattle.io.specs.Counts.{clamped}
 use Rattle.controller.specs.State.{State}
-use Rattle.records.specs.Plain.{Marked}
-use Rattle.playback.specs.Plain.{Countable, Printed}
+use Rattle.records.specs.Plain.{Marked, Splits}
+use Rattle.playback.specs.Plain.{Countable, Closes, Printed}
 
 -- The bytes that a read gave: as many as it answered, at the start of the window.
 abbrev pub given : ℤ → List ℕ → List ℕ
@@ -39,6 +40,13 @@ pub record LastText (how room : ℕ) (closing text : List ℕ) : Type 0 where
   pub unread : (how ≡ 1 → ⊥) → (how ≡ 3 → ⊥) → 50 ≤ room → text ≡ 117 ∷ 110 ∷ 114 ∷ 101 ∷ 97 ∷ 100 ∷ 97 ∷ 98 ∷ 108 ∷ 101 ∷ 10 ∷ []
   pub unwritten : (how ≡ 3) ⊎ (room < 50) → text ≡ []
 
+-- Rules 9.3 and 9.4: what closes the text of a file: `not a session`, or of its records the lines
+-- behind the last.
+pub data Closing (file : List ℕ) : List ℕ → Type 0 where
+  other : (Marked file → ⊥) → Closing file (110 ∷ 111 ∷ 116 ∷ 32 ∷ 97 ∷ 32 ∷ 115 ∷ 101 ∷ 115 ∷ 115 ∷ 105 ∷ 111 ∷ 110 ∷ 10 ∷ [])
+  session : {packets : List (List ℕ)} {rest text : List ℕ} → Marked file → Splits (drop 5 file) packets rest
+      → Closes (length packets) (length rest) text → Closing file text
+
 -- A run, from reset: how it stands, the state, and the output at its end.
 pub record RunPlain (how : ℕ) (t : State) (out' : List ℕ) : Type 0 where
   pub count : ℕ
@@ -46,11 +54,11 @@ pub record RunPlain (how : ℕ) (t : State) (out' : List ℕ) : Type 0 where
   pub reads : Reads count how bytes
   -- There is no other reason to stop, but for 2^64 - 1 reads.
   pub stops : how ≡ 0 → count ≡ 18446744073709551615
-  -- Unless a write failed, the state is that of the bytes read, and what closes their text is
-  -- `closing`.
+  -- Unless a write failed, the state is that of the bytes read; what closes their text is `closing`.
   pub lines : List ℕ
   pub closing : List ℕ
   pub printed : (how ≡ 3 → ⊥) → Countable bytes → Printed bytes (lines ++ closing) t
+  pub closes : Countable bytes → Closing bytes closing
   -- The last lines stand at the start of the output, which else is as it was.
   pub out : List ℕ
   pub text : List ℕ
