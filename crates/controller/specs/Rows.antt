@@ -1,6 +1,6 @@
--- What is promised of the row mark, section 11, with every place as a number: when it is right, what
--- each packet does to it, and what it means that nothing else depends on it. Said apart from the
--- pass by which the front end goes (Mark).
+-- What is promised of the row mark, section 11, with every place as a number: when it is right,
+-- what each packet does to it, and what it means that nothing else depends on it. Said apart from
+-- the pass by which the front end goes (Mark).
 use Prim.Native.Nat.{ℕ, _+_, _-_, _*_, _/_, _<_}
 use mathlib.Core.Path.{_≡_}
 use mathlib.Core.Logic.{_↔_}
@@ -33,7 +33,8 @@ columnsOf block = two (getD block 9 0) (getD block 10 0)
 abbrev pub rowsOf : List ℕ → ℕ
 rowsOf block = two (getD block 11 0) (getD block 12 0)
 
--- A row of the staged shape has moved; its bit is right if it is set exactly then; the mark is if each of its bits is.
+-- A row of the staged shape has moved; its bit is right if it is set exactly then; the mark is if
+-- each of its bits is.
 abbrev pub RowMoved : State → ℕ → Type 0
 RowMoved s r = Moved (columnsOf (s .block)) (rowsOf (s .block)) (s .staged) (s .live) r
 
@@ -45,7 +46,8 @@ MarkRight s = RightFor (columnsOf (s .block)) (rowsOf (s .block)) (s .staged) (s
 
 -- ---- Rules 11.2 and 11.3: what a packet does to it.
 
--- The rows that a 34h packet touches, in a shape of so many columns: behind its start it has four bytes a point.
+-- The rows that a 34h packet touches, in a shape of so many columns: behind its start it has four
+-- bytes a point.
 abbrev pub TouchedBy : ℕ → List ℕ → ℕ → Type 0
 TouchedBy columns p r = Touches columns (wordAt (dataOf p) 0) ((length (dataOf p) - 2) / 4) r
 
@@ -53,7 +55,8 @@ pub record RowsMarked (p : List ℕ) (s : State) (o : Out) : Type 0 where
   -- Rule 11.3: a mark that is right before any packet is right after it; so is each bit of it.
   pub right : MarkRight s → MarkRight (o .state)
   pub row-right : (r : ℕ) → r < 32 → RowRight s r → RowRight (o .state) r
-  -- Rule 11.2: whatever the mark was, a 34h write leaves the bits of the rows that it touches right, and no other bit changed.
+  -- Rule 11.2: whatever the mark was, a 34h write leaves the bits of the rows that it touches
+  -- right, and no other bit changed.
   pub touched : Writes 0x34 p o → (r : ℕ) → TouchedBy (columnsOf (s .block)) p r → RowRight (o .state) r
   pub untouched : Writes 0x34 p o → (r : ℕ) → r < 32 → (TouchedBy (columnsOf (s .block)) p r → ⊥) → bitAt (markOf (o .state .block)) r ≡ bitAt (markOf (s .block)) r
   -- A 35h write leaves all of it right.

@@ -31,7 +31,8 @@ pub data WriteSize (d : List ℕ) : ℕ → Type 0 where
   uart : length d ≡ 11 → WriteSize d 0x6D
   -- A start, and so many points.
   points : (n : ℕ) → 1 ≤ n → length d ≡ 2 + 4 * n → WriteSize d 0x34
-  -- A head of six, and as many words as the count says; with compression 1 so many pairs (rule 5.11).
+  -- A head of six, and as many words as the count says; with compression 1 so many pairs (rule
+  -- 5.11).
   gains : (byteAt d 0 ≡ 1 → ⊥) → length d ≡ 6 + 2 * wordAt d 2 → WriteSize d 0x2B
   pairs : (n : ℕ) → byteAt d 0 ≡ 1 → wordAt d 2 ≡ 2 * n → length d ≡ 6 + 2 * wordAt d 2 → WriteSize d 0x2B
   -- By the mode; one above 1 has no size of its own.

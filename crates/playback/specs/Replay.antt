@@ -23,7 +23,8 @@ line number status reply =
 abbrev pub lineOf : ℕ → Out → List ℕ
 lineOf number o = line number (o .status) (take (o .size) (o .reply))
 
--- Rule 9.2: a line a record, each on the state that the one before it left; so many records came before.
+-- Rule 9.2: a line a record, each on the state that the one before it left; so many records came
+-- before.
 unfoldable pub lines : ℕ → List (List ℕ) → State → List ℕ
 lines before [] s = []
 lines before (p ∷ ps) s =
@@ -57,7 +58,8 @@ abbrev pub unreadableLine : List ℕ
 unreadableLine =
     117 ∷ 110 ∷ 114 ∷ 101 ∷ 97 ∷ 100 ∷ 97 ∷ 98 ∷ 108 ∷ 101 ∷ 10 ∷ []
 
--- Rules 9.3 and 9.4: what is printed at the end of the file: so many bytes of the mark, whole records, and bytes of the last one.
+-- Rules 9.3 and 9.4: what is printed at the end of the file: so many bytes of the mark, whole
+-- records, and bytes of the last one.
 unfoldable pub closing : ℕ → ℕ → ℕ → List ℕ
 closing marked number have =
     cond (eqb marked markSize) (cutText number have ++ endLine number) notASession
@@ -75,7 +77,8 @@ endState file = stateAfterRecords (fileRun file .whole) resetState
 
 -- ---- The form of the lines, apart from how they are made.
 
--- Rule 9.2: from one count of records to another, a line for each: its number, a status of at most 12, and bytes in hex.
+-- Rule 9.2: from one count of records to another, a line for each: its number, a status of at most
+-- 12, and bytes in hex.
 pub data Formed : ℕ → List ℕ → ℕ → Type 0 where
   none : {n : ℕ} → Formed n [] n
   next : {n m status : ℕ} {reply a b c rest : List ℕ} → Decimal (n + 1) a → Decimal status b → status ≤ 12 → Hex reply c

@@ -15,16 +15,17 @@ use Rattle.playback.specs.Replay.{replyBuffer, lineOf, notASession, repl
 use Rattle.playback.specs.Plain.{Counted, Countable, Printed}
 use Rattle.playback.specs.Windows.{progress, WindowReplayed, going, closingText}
 
--- Rule 9.6: calls of `replay`, window after window, each with an output and a reply buffer of its own: the bytes that they took, and the text that they put.
+-- Rule 9.6: calls of `replay`, window after window, each with an output and a reply buffer of its
+-- own: the bytes that they took, and the text that they put.
 pub data Called (from : Progress) (kept : List ℕ) (s : State) : List ℕ → List ℕ → Progress → List ℕ → State → Type 0 where
   none : Called from kept s [] [] from kept s
   next : {bytes text window reply reply' out out' : List ℕ} {p q : Progress} {kept' kept'' : List ℕ} {s' s'' : State} → Called from kept s bytes text p kept' s'
       → WindowReplayed window p kept' s' reply out q kept'' s'' reply' out'
       → Called from kept s (bytes ++ take (q .at) window) (text ++ take (q .size) out') q kept'' s''
 
--- Rules 9.2 to 9.6: what they have put, and behind it what `finish` is to put (`closingText`), is the
--- text of the bytes that they took, and the state is their end state; each line has its form; and a
--- call that is lent room takes some of its window.
+-- Rules 9.2 to 9.6: what they have put, and behind it what `finish` is to put (`closingText`), is
+-- the text of the bytes that they took, and the state is their end state; each line has its form;
+-- and a call that is lent room takes some of its window.
 pub record WholeText (bytes text : List ℕ) (p : Progress) (kept : List ℕ) (s : State) : Type 0 where
   pub printed : (out : List ℕ) → 50 ≤ length out → Counted (p .number) → text ++ closingText p out ≡ replayText bytes
   pub state : s ≡ endState bytes
@@ -38,8 +39,8 @@ pub data NoneStopped : List (List ℕ) → State → Type 0 where
   next : {p : List ℕ} {ps : List (List ℕ)} {s : State} → (step p s replyBuffer .status ≡ 1 → ⊥) → NoneStopped ps (step p s replyBuffer .state)
       → NoneStopped (p ∷ ps) s
 
--- Rule 9.5: a record over 512 bytes is refused by 3, changes nothing, and has the reply without data that its first byte asks for; its first 513 bytes
--- tell all of this.
+-- Rule 9.5: a record over 512 bytes is refused by 3, changes nothing, and has the reply without
+-- data that its first byte asks for; its first 513 bytes tell all of this.
 pub record OverLong (p : List ℕ) (s : State) : Type 0 where
   pub status : step p s replyBuffer .status ≡ 3
   pub unchanged : step p s replyBuffer .state ≡ s
@@ -77,12 +78,14 @@ pub record Theorems : Type 0 where
   -- Rule 9.6: windows of any split, from the start of a file and from reset.
   pub any-split : {kept bytes text : List ℕ} {p : Progress} {kept' : List ℕ} {s : State}
       → Called (progress 0 0 0 0 0) kept resetState bytes text p kept' s → WholeText bytes text p kept' s
-  -- Rules 9.2 to 9.4: the text and the end state of a file are what the plain promise says, and nothing else is.
+  -- Rules 9.2 to 9.4: the text and the end state of a file are what the plain promise says, and
+  -- nothing else is.
   pub printed : (file : List ℕ) → Countable file → Printed file (replayText file) (endState file)
   pub determined : {file a b : List ℕ} {s t : State} → Printed file a s → Printed file b t → (a ≡ b) × (s ≡ t)
   -- Rule 9.4: `not a session` is printed exactly if the first five bytes are not there or differ.
   pub not-a-session : (file : List ℕ) → (replayText file ≡ notASession) ↔ (Marked file → ⊥)
-  -- Rules 9.2 and 9.6: of a file of bytes no record is refused by 1, and what is lent is right at its end.
+  -- Rules 9.2 and 9.6: of a file of bytes no record is refused by 1, and what is lent is right at
+  -- its end.
   pub none-stopped : (file : List ℕ) → Bytes file → NoneStopped (fileRun file .whole) resetState
   pub stays-right : (file : List ℕ) → Bytes file → LentRight (endState file) replyBuffer
   pub over-long : (p : List ℕ) (s : State) → LentRight s replyBuffer → 512 < length p → OverLong p s

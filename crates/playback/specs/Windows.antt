@@ -32,19 +32,22 @@ progress at size marked number have =
 abbrev pub begun : Progress → Progress
 begun p = progress 0 0 (p .marked) (p .number) (p .have)
 
--- What is carried stands for a run, replayed from a state: the reader's part, the count of whole records, and the state that they left.
+-- What is carried stands for a run, replayed from a state: the reader's part, the count of whole
+-- records, and the state that they left.
 pub record Stands (first : State) (r : Run) (p : Progress) (kept : List ℕ) (s : State) : Type 0 where
   pub reader : ReaderStands r (p .marked) (p .have) kept
   pub number : p .number ≡ length (r .whole)
   pub state : s ≡ stateAfterRecords (r .whole) first
 
--- The bytes taken from the window have taken the run on, and the text is that of the records that became whole by them.
+-- The bytes taken from the window have taken the run on, and the text is that of the records that
+-- became whole by them.
 pub record Followed (first : State) (r : Run) (bytes : List ℕ) (p : Progress) (kept : List ℕ) (s : State) (text : List ℕ) : Type 0 where
   pub stands : Stands first (taken r bytes) p kept s
   pub printed : lines 0 (taken r bytes .whole) first ≡ lines 0 (r .whole) first ++ text
 
--- From one place in the window to another: some text was put behind what the output had. Whatever run, and from whatever state, the arguments stood
--- for, what is left stands for that run with the bytes taken, and the text is theirs. So windows of any split print the text of the whole.
+-- From one place in the window to another: some text was put behind what the output had. Whatever
+-- run, and from whatever state, the arguments stood for, what is left stands for that run with the
+-- bytes taken, and the text is theirs. So windows of any split print the text of the whole.
 pub record Replayed (window : List ℕ) (from : Progress) (kept : List ℕ) (s : State) (out : List ℕ)
     (p : Progress) (kept' : List ℕ) (s' : State) (out' : List ℕ) : Type 0 where
   pub text : List ℕ
@@ -52,7 +55,8 @@ pub record Replayed (window : List ℕ) (from : Progress) (kept : List ℕ) (s :
   pub formed : Formed (from .number) text (p .number)
   pub follows : (first : State) (r : Run) → Stands first r from kept s → Followed first r (part window (from .at) (p .at)) p kept' s' text
 
--- Bytes of the window are left only where the output has no room for another line, or the count of records is at its end.
+-- Bytes of the window are left only where the output has no room for another line, or the count of
+-- records is at its end.
 abbrev pub Full : Progress → List ℕ → Type 0
 Full p out = (length out < p .size + lineRoom) ⊎ (mostRecords ≤ p .number)
 
@@ -60,7 +64,8 @@ Full p out = (length out < p .size + lineRoom) ⊎ (mostRecords ≤ p .number)
 abbrev pub hasRoom : ℕ → ℕ → List ℕ → Bool
 hasRoom size number out = leb (size + lineRoom) (length out) && ltb number mostRecords
 
--- The rooms that a replay is lent are long enough, and no more bytes are said to be under way than a record has.
+-- The rooms that a replay is lent are long enough, and no more bytes are said to be under way than
+-- a record has.
 pub record Roomy (kept reply : List ℕ) (have : ℕ) : Type 0 where
   pub for-record : keptSize ≤ length kept
   pub for-reply : replyRoom ≤ length reply
@@ -94,7 +99,8 @@ abbrev pub readOn : Going → Taken → List ℕ → Going
 readOn g t kept =
     going (progress (t .at) (g .now .size) (t .marked) (g .now .number) (t .have)) kept (g .state) (g .reply) (g .out)
 
--- Rule 9.2: a record's packet goes to the front end, which writes over the reply buffer, and its line stands behind what the output had.
+-- Rule 9.2: a record's packet goes to the front end, which writes over the reply buffer, and its
+-- line stands behind what the output had.
 abbrev pub lineNow : List ℕ → Going → List ℕ
 lineNow packet g = lineOf (g .now .number + 1) (step packet (g .state) (g .reply))
 
@@ -115,13 +121,15 @@ turnOf window g =
     turnBy window g (nextTaken window (g .now .at) (g .now .marked) (g .now .have) (g .kept))
     (nextKept window (g .now .at) (g .now .marked) (g .now .have) (g .kept))
 
--- Turn after turn, and it stops at the first place where the window is used up, the output has no room for another line, or the count of records is at its end.
+-- Turn after turn, and it stops at the first place where the window is used up, the output has no
+-- room for another line, or the count of records is at its end.
 pub data Turns (window : List ℕ) : Going → Going → Type 0 where
   stops : {g : Going} → (length window ≤ g .now .at) ⊎ Full (g .now) (g .out) → Turns window g g
   goes : {g h : Going} → g .now .at < length window → g .now .size + 1578 ≤ length (g .out) → g .now .number < 18446744073709551615
       → Turns window (turnOf window g) h → Turns window g h
 
--- A window replayed: all of it, unless the output is full. `turns` and `refused` leave one outcome, whatever the arguments stand for.
+-- A window replayed: all of it, unless the output is full. `turns` and `refused` leave one outcome,
+-- whatever the arguments stand for.
 pub record WindowReplayed (window : List ℕ) (from : Progress) (kept : List ℕ) (s : State) (reply out : List ℕ)
     (p : Progress) (kept' : List ℕ) (s' : State) (reply' out' : List ℕ) : Type 0 where
   pub replayed : Replayed window (begun from) kept s out p kept' s' out'
@@ -132,7 +140,8 @@ pub record WindowReplayed (window : List ℕ) (from : Progress) (kept : List ℕ
   pub turns : Roomy kept reply (from .have) → Turns window (going (begun from) kept s reply out) (going p kept' s' reply' out')
   pub refused : (Roomy kept reply (from .have) → ⊥) → Refused from kept s reply out p kept' s' reply' out'
 
--- Bytes have taken a replay on: whatever run, and from whatever state, what was carried stood for, what is carried now stands for that run with them.
+-- Bytes have taken a replay on: whatever run, and from whatever state, what was carried stood for,
+-- what is carried now stands for that run with them.
 pub record Carries (bytes : List ℕ) (from : Progress) (kept : List ℕ) (s : State) (p : Progress) (kept' : List ℕ) (s' : State) : Type 0 where
   pub stands : (first : State) (r : Run) → Stands first r from kept s → Stands first (taken r bytes) p kept' s'
 
@@ -143,7 +152,8 @@ closingRoom = 50
 abbrev pub cutRoom : ℕ
 cutRoom = 25
 
--- What is printed behind the last record: nothing without room, or with the count of records at its end.
+-- What is printed behind the last record: nothing without room, or with the count of records at its
+-- end.
 abbrev pub closingText : Progress → List ℕ → List ℕ
 closingText p out =
     cond (leb closingRoom (length out) && ltb (p .number) mostRecords) (closing (p .marked) (p .number) (p .have)) []

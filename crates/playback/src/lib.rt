@@ -20,7 +20,8 @@ const CLOSING_ROOM: usize = 50;
 
 const MOST_RECORDS: u64 = u64::MAX;
 
-// How far a replay has come: in the window and in the output, in the mark, in records, and in the bytes of the record under way.
+// How far a replay has come: in the window and in the output, in the mark, in records, and in the
+// bytes of the record under way.
 pub struct Progress {
     pub at: usize,
     pub size: usize,
@@ -29,8 +30,9 @@ pub struct Progress {
     pub have: usize,
 }
 
-// Replays a window from its start, behind what came before it, and prints over the start of the output. Takes all of the window, unless before its end the
-// output is full or no more records can be counted; nothing, where a room is too short.
+// Replays a window from its start, behind what came before it, and prints over the start of the
+// output. Takes all of the window, unless before its end the output is full or no more records can
+// be counted; nothing, where a room is too short.
 pub fn replay(
     window: &[u8],
     from: Progress,
@@ -176,7 +178,8 @@ fn put_line(out: &mut [u8], at: usize, number: u64, status: u64, reply: &[u8], n
     text::put_text(out, behind_reply, b"\n")
 }
 
-// The lines behind the last record, over the start of the output: nothing where there is no room, or no number left for a record that is cut.
+// The lines behind the last record, over the start of the output: nothing where there is no room,
+// or no number left for a record that is cut.
 pub fn finish(p: Progress, out: &mut [u8]) -> usize
     ensures { λ r. ⌜ Puts 0 (closingText p (now (out .entry))) (now (out .entry)) (now (out .exit)) r × (r ≤ length (now (out .exit))) ⌝ }
 {
@@ -215,7 +218,8 @@ fn put_end(out: &mut [u8], at: usize, number: u64) -> usize
     text::put_text(out, behind_number, b"\n")
 }
 
-// Rule 9.7: the line for an input that can't be read, over the start of the output: nothing where there is no room.
+// Rule 9.7: the line for an input that can't be read, over the start of the output: nothing where
+// there is no room.
 pub fn unreadable(out: &mut [u8]) -> usize
     ensures { λ r. ⌜ Puts 0 (unreadableText (now (out .entry))) (now (out .entry)) (now (out .exit)) r × (r ≤ length (now (out .exit))) ⌝ }
 {

@@ -1,7 +1,7 @@
 -- Rules 9.2 to 9.7: what the program does, with the numbers themselves. What a read answers and
 -- puts into a window is free, and so is whether a write succeeds. It goes on with another read (0),
--- is at the file's end (1), can't read (2) or can't write (3), which also stands for an output without
--- room for a line, or a record too many to be counted.
+-- is at the file's end (1), can't read (2) or can't write (3), which also stands for an output
+-- without room for a line, or a record too many to be counted.
 use Prim.Native.Nat.{ℕ, suc, _≤_, _<_}
 use mathlib.Core.Path.{_≡_}
 use mathlib.Core.Logic.{_⊎_}
@@ -54,7 +54,8 @@ pub record RunPlain (how : ℕ) (t : State) (out' : List ℕ) : Type 0 where
   pub reads : Reads count how bytes
   -- There is no other reason to stop, but for 2^64 - 1 reads.
   pub stops : how ≡ 0 → count ≡ 18446744073709551615
-  -- Unless a write failed, the state is that of the bytes read; what closes their text is `closing`.
+  -- Unless a write failed, the state is that of the bytes read; what closes their text is
+  -- `closing`.
   pub lines : List ℕ
   pub closing : List ℕ
   pub printed : (how ≡ 3 → ⊥) → Countable bytes → Printed bytes (lines ++ closing) t

@@ -1,4 +1,5 @@
-// Replays the session file on standard input: a line a record, as rules 9.2 to 9.7 have them. Reads, replays and writes; the text is playback's.
+// Replays the session file on standard input: a line a record, as rules 9.2 to 9.7 have them.
+// Reads, replays and writes; the text is playback's.
 use controller::GAINS_SIZE;
 use controller::MAP_SIZE;
 use controller::REPLY_ROOM;
@@ -59,7 +60,8 @@ struct Stand {
     how: usize,
 }
 
-// Window after window, until there is no more to read or to write. Answers how it stands at the end.
+// Window after window, until there is no more to read or to write. Answers how it stands at the
+// end.
 fn run(
     window: &mut [u8],
     kept: &mut [u8],
@@ -156,8 +158,8 @@ fn progress(s: Stand) -> Progress
     }
 }
 
-// How it goes on after a read that failed, or gave n bytes of which those up to p.at were replayed and their lines written. A file that is no session
-// need not be read to its end.
+// How it goes on after a read that failed, or gave n bytes of which those up to p.at were replayed
+// and their lines written. A file that is no session need not be read to its end.
 fn way(failed: bool, n: usize, p: Progress) -> usize
     ensures { λ r. ⌜ r ≡ wayOf failed n p ⌝ }
 {
@@ -205,7 +207,8 @@ fn last_lines(s: Stand, out: &mut [u8]) -> usize
     playback::finish(progress(s), out)
 }
 
-// One window: its lines, written as often as they fill the output. Less than all of it is taken where a write failed, or no record can be counted any more.
+// One window: its lines, written as often as they fill the output. Less than all of it is taken
+// where a write failed, or no record can be counted any more.
 fn play(
     window: &[u8],
     from: Progress,
@@ -254,7 +257,8 @@ fn goal(end: usize, taken: usize) -> usize
     if taken == 0 { 0 } else { end }
 }
 
-// As much of the window as fills the output, and its lines written. Nothing counts as taken where the write failed.
+// As much of the window as fills the output, and its lines written. Nothing counts as taken where
+// the write failed.
 fn play_some(
     window: &[u8],
     from: Progress,
