@@ -1,9 +1,11 @@
 -- What holds of whole files, so that no contract of one window can carry it.
-use Prim.Native.Nat.{ℕ, _≤_, _<_}
+use Prim.Native.Nat.{ℕ, _+_, _≤_, _<_}
 use mathlib.Core.Path.{_≡_}
-use mathlib.Core.Logic.{_↔_}
+use mathlib.Core.Logic.{_⊎_, _↔_}
 use mathlib.Core.List.{List, [], _∷_, _++_}
 use lib.ListN.{length, take, drop}
+use lib.Seq.{sets}
+use Rattle.text.specs.Text.{Puts}
 use Rattle.controller.specs.State.{State, resetState}
 use Rattle.controller.specs.Step.{statusReply, step}
 use Rattle.controller.specs.Plain.{LentRight}
@@ -75,6 +77,13 @@ pub record Theorems : Type 0 where
   pub window-determined : {window kept reply out : List ℕ} {from p q : Progress} {s t u : State} {kept' kept'' reply' reply'' out' out'' : List ℕ}
       → WindowReplayed window from kept s reply out p kept' t reply' out' → WindowReplayed window from kept s reply out q kept'' u reply'' out''
       → going p kept' t reply' out' ≡ going q kept'' u reply'' out''
+  -- Rule 9.6: all of a window is taken, unless the output has no room for another line or no record
+  -- more can be counted.
+  pub stops : {window kept reply out : List ℕ} {from p : Progress} {s t : State} {kept' reply' out' : List ℕ}
+      → WindowReplayed window from kept s reply out p kept' t reply' out' → 515 ≤ length kept → 512 ≤ length reply → from .have ≤ 65537
+      → p .at < length window → (length out' < p .size + 1578) ⊎ (18446744073709551615 ≤ p .number)
+  -- What `finish` and `unreadable` promise: the output has the text, which ends at the answer.
+  pub put : {at end : ℕ} {text out out' : List ℕ} → Puts at text out out' end → (end ≡ at + length text) × (out' ≡ sets out at text)
   -- Rule 9.6: windows of any split, from the start of a file and from reset.
   pub any-split : {kept bytes text : List ℕ} {p : Progress} {kept' : List ℕ} {s : State}
       → Called (progress 0 0 0 0 0) kept resetState bytes text p kept' s → WholeText bytes text p kept' s

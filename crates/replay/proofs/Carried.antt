@@ -136,16 +136,16 @@ start-of {s} {kept} {t} e m n h w =
       turns-left = λ z. refl;
     }
 
-pub one-more : {s s' : Stand} {window kept kept' : List ℕ} {t t' : State} {turns turns' : ℕ} → SoFar s kept t turns → s .how ≡ 0
-    → WindowTaken s kept t window s' kept' t' → (s' .how ≡ 0 → turns' + 1 ≡ turns) → SoFar s' kept' t' turns'
+pub one-more : {s s' : Stand} {window kept kept' : List ℕ} {t t' : State} {turns turns' long : ℕ} → SoFar s kept t turns → s .how ≡ 0
+    → WindowTaken s kept t window s' kept' t' → length window ≡ long → 0 < long → (s' .how ≡ 0 → turns' + 1 ≡ turns) → SoFar s' kept' t' turns'
 unfolding fileRun
-one-more {s} {s'} {window} {kept} {kept'} {t} {t'} x more w left =
+one-more {s} {s'} {window} {kept} {kept'} {t} {t'} x more w same room left =
     record {
       count = suc (x .count);
       bytes = x .bytes ++ given (w .got) window;
       reads =
-          Reads.next (w .got) window (subst (λ (k : ℕ). Reads (x .count) k (x .bytes)) more (x .reads))
-          (λ fine room. goes-on (w .answered .goes-on room fine) (stands fine .reader .mark-bytes));
+          Reads.next (w .got) window (subst (λ (k : ℕ). Reads (x .count) k (x .bytes)) more (x .reads)) (rw same room)
+          (λ fine. goes-on (w .answered .goes-on (rw same room) fine) (stands fine .reader .mark-bytes));
       stands = stands;
       turns-left = λ z. omega (arith, x .turns-left more, left z);
     }

@@ -26,12 +26,12 @@ pub record GoesOn (got : ℤ) (bytes : List ℕ) (how : ℕ) : Type 0 where
   pub ended : got ≡ pos 0 → how ≡ 1
   pub some : {k : ℕ} → got ≡ pos (suc k) → (how ≡ 0) ⊎ ((how ≡ 1) × (Marked bytes → ⊥))
 
--- So many reads, one after another while it goes on, how it goes on behind the last of them, and
--- the bytes that they gave. Where a write failed it does not go on.
+-- So many reads, one after another while it goes on, each into a window with room, how it goes on
+-- behind the last of them, and the bytes that they gave. Where a write failed it does not go on.
 pub data Reads : ℕ → ℕ → List ℕ → Type 0 where
   none : Reads 0 0 []
-  next : {n how : ℕ} {bytes : List ℕ} (got : ℤ) (window : List ℕ) → Reads n 0 bytes
-      → ((how ≡ 3 → ⊥) → 0 < length window → GoesOn got (bytes ++ given got window) how) → Reads (suc n) how (bytes ++ given got window)
+  next : {n how : ℕ} {bytes : List ℕ} (got : ℤ) (window : List ℕ) → Reads n 0 bytes → 0 < length window
+      → ((how ≡ 3 → ⊥) → GoesOn got (bytes ++ given got window) how) → Reads (suc n) how (bytes ++ given got window)
 
 -- The last lines, with room for so many bytes: at the end of a file what is printed behind the last
 -- record; nothing behind a write that failed; else `unreadable`. Fewer than 50 bytes are no room.

@@ -72,7 +72,7 @@ fn run(
     reply: &mut [u8],
     out: &mut [u8],
 ) -> Stand
-    requires { ⌜ state (now block) (now staged) (now live) (now gains) ≡ resetState ⌝ }
+    requires { ⌜ (state (now block) (now staged) (now live) (now gains) ≡ resetState) × (0 < length (now window)) ⌝ }
     ensures { λ r. ⌜ RunPlain (r .how) (state (now (block .exit)) (now (staged .exit)) (now (live .exit)) (now (gains .exit))) (now (out .exit)) ⌝ }
 {
     let mut s = Stand {

@@ -10,6 +10,8 @@ returns : tie.Need-returns
 returns c =
     record {
       window-determined = window-determined;
+      stops = λ w kept reply have left. w .rest (record { for-record = kept; for-reply = reply; for-have = have }) left;
+      put = λ p. (p .ends, p .exits);
       any-split = any-split;
       printed = printed;
       determined = determined;

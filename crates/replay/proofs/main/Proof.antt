@@ -46,7 +46,7 @@ slice-aggregate-run-8 : tie.Need-slice-aggregate-run-8
 slice-aggregate-run-8 c = search needs
 
 run-requires : tie.Need-run-requires
-run-requires c κs = from-reset (c .before .before .before .before .before .before .before .before .before .before .before .before .reset .ensures) (record { block = refl; staged = refl; live = refl; gains = refl })
+run-requires c κs = (from-reset (c .before .before .before .before .before .before .before .before .before .before .before .before .reset .ensures) (record { block = refl; staged = refl; live = refl; gains = refl }), search needs)
 
 returns : tie.Need-returns
 returns c = search needs

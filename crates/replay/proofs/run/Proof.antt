@@ -18,13 +18,14 @@ Inv-loop window₀ kept₀ block₀ staged₀ live₀ gains₀ reply₀ out₀ s
     SoFar s kept (state block staged live gains) turns × (0 < turns → s .how ≡ 0)
     × (length window ≡ length window₀) × (length kept ≡ length kept₀) × (length block ≡ length block₀) × (length staged ≡ length staged₀)
     × (length live ≡ length live₀) × (length gains ≡ length gains₀) × (length reply ≡ length reply₀) × (length out ≡ length out₀)
+    × (0 < length window₀)
 
 abbrev μ-loop : tie.MeasureT-loop
 μ-loop window₀ kept₀ block₀ staged₀ live₀ gains₀ reply₀ out₀ s₀ turns₀ window kept block staged live gains reply out s turns =
     turns
 
 loop-holds : tie.Need-loop-holds Inv-loop μ-loop
-loop-holds c = (start-of (c .before .before .before .before .before .before .before .before .pre) refl refl refl refl, λ some. refl, refl, refl, refl, refl, refl, refl, refl, refl)
+loop-holds c = (start-of (c .before .before .before .before .before .before .before .before .pre .0) refl refl refl refl, λ some. refl, refl, refl, refl, refl, refl, refl, refl, refl, c .before .before .before .before .before .before .before .before .pre .1)
 
 one-window-requires : tie.Need-one-window-requires Inv-loop μ-loop
 one-window-requires c κs = search needs
@@ -37,7 +38,7 @@ loop-less c = search needs
 
 loop-again : tie.Need-loop-again Inv-loop μ-loop
 loop-again c =
-    (one-more (c .before .before .before .before .before .before .before .before .before .before .before .before .before .before .before .before .before .before .before .before .before .before .before .before .before .before .before .loop .inv .0) (c .before .before .before .before .before .before .before .before .before .before .before .before .before .before .before .before .before .before .before .before .before .before .before .before .before .before .before .loop .inv .1 (c .before .before .before .before .before .before .before .before .before .before .before .before .before .before .before .before .before .before .before .before .before .before .before .before .before .before .loop-test .taken)) (c .before .before .before .before .before .before .before .before .before .before .before .before .before .before .before .before .before .one-window .ensures) (c .left .ensures .1), c .left .ensures .2, search needs, search needs, search needs, search needs, search needs, search needs, search needs, search needs)
+    (one-more (c .before .before .before .before .before .before .before .before .before .before .before .before .before .before .before .before .before .before .before .before .before .before .before .before .before .before .before .loop .inv .0) (c .before .before .before .before .before .before .before .before .before .before .before .before .before .before .before .before .before .before .before .before .before .before .before .before .before .before .before .loop .inv .1 (c .before .before .before .before .before .before .before .before .before .before .before .before .before .before .before .before .before .before .before .before .before .before .before .before .before .before .loop-test .taken)) (c .before .before .before .before .before .before .before .before .before .before .before .before .before .before .before .before .before .one-window .ensures) (search needs) (c .before .before .before .before .before .before .before .before .before .before .before .before .before .before .before .before .before .before .before .before .before .before .before .before .before .before .before .loop .inv .10) (c .left .ensures .1), c .left .ensures .2, search needs, search needs, search needs, search needs, search needs, search needs, search needs, search needs, c .before .before .before .before .before .before .before .before .before .before .before .before .before .before .before .before .before .before .before .before .before .before .before .before .before .before .before .loop .inv .10)
 
 close-requires : tie.Need-close-requires Inv-loop μ-loop
 close-requires c κs = search needs
