@@ -38,7 +38,7 @@ use denote.Triple.Walked.{says, needs, Stays, stay_none, stay_none_slice, walk_o
 use denote.Exit.{yes, no}
 use denote.Signature.{Signature, plain, named_lft}
 use denote.Signature.Struct.{in_struct, makes}
-use Rattle.batch.specs.Internal.{behind, partBytes}
+use Rattle.batch.specs.Internal.{behind, part_bytes}
 use Rattle.batch.specs.declared.Batch.{Batch}
 use Rattle.batch.specs.contracts.Batch as T
 use Rattle.batch.proofs.Batch.TheLaws as T'
@@ -87,7 +87,7 @@ module _ (w : Width) (at : Name) (wide : ℕ) (numbers : List ℕ → List ℕ) 
       record {
         ghost = Unit {0};
         requires = λ _. fact 𝓤 (Fits wide numbers a.0.filled a.1.1.0 a.1.1.1.0 a.0.buffer.now a.1.0.now);
-        ensures = λ _ r e. fact 𝓤 (r ≡ behind a.0 (partBytes (numbers a.1.0.now) a.1.1.0 a.1.1.1.0));
+        ensures = λ _ r e. fact 𝓤 (r ≡ behind a.0 (part_bytes (numbers a.1.0.now) a.1.1.0 a.1.1.1.0));
       }
 
   module _ {M : Type 1} {𝓤 : Ura M} (𝓛 : Logic 𝓤) (κ κ' : Lft) (q q' : Share) (b o : ℕ) (γ : GName) (ys : List ℕ) (n : ℕ) (list : MutBor (List ℕ)) (start count : ℕ) (n-fits : n < 2 ^ 64) (start_fits : start < 2 ^ 64) (count_fits : count < 2 ^ 64) where

@@ -31,7 +31,7 @@ use denote.Triple.Call.{calls_at}
 use denote.Triple.Clauses.{closing, ensured, lasts}
 use denote.Triple.Walked.{says}
 use Rattle.wire.specs.Numbers.{word_bytes}
-use Rattle.batch.specs.Internal.{opened, behind, WordFits, head_of, HeadFits, partBytes, PartFits}
+use Rattle.batch.specs.Internal.{opened, behind, WordFits, head_of, HeadFits, part_bytes, PartFits}
 use Rattle.batch.specs.declared.Batch.{Batch}
 use Rattle.batch.specs.contracts.Batch as T
 use Rattle.batch.proofs.Batch.TheLaws as T'
@@ -157,7 +157,7 @@ module _ {M : Type 1} {𝓤 : Ura M} (𝓛 : Logic 𝓤) (κ : Lft) (q : Share) 
 
     module _ (name : Name) (wide : ℕ) (numbers : List ℕ → List ℕ) (h : Batch) (from n : ℕ) (from-fits : from < 2 ^ 64) (n-fits : n < 2 ^ 64) (fits : PartFits wide h.buffer.now h.filled list.now from n) (u : Val) where
       abbrev next : Batch
-      next = behind h (partBytes (numbers list.now) from n)
+      next = behind h (part_bytes (numbers list.now) from n)
 
       abbrev to-words : (Words 𝓛 w name wide numbers).Ghost
       to-words = (((κ, (κ', tt)), (q, (q', tt)), tt, (h, (list, (from, (n, tt)))), (u ∷ [], (m ∷ [], (vint w64 from ∷ [], (vint w64 n ∷ [], tt))))), tt)

@@ -13,7 +13,7 @@ use denote.Signature.{Signature, plain}
 use denote.Triple.Clauses.{Ended, Clauses, closing}
 use denote.Triple.Spec.{triple_of}
 use denote.Triple.Statement.{Contract}
-use Rattle.batch.specs.Internal.{Put, partBytes, PartFits}
+use Rattle.batch.specs.Internal.{Put, part_bytes, PartFits}
 use Rattle.batch.proofs.Batch.TheLaws as T'
 
 -- Locals.
@@ -50,7 +50,7 @@ module _ (wide : ℕ) (numbers : List ℕ → List ℕ) where
   Fits at from n l list = PartFits wide l at list from n
 
   abbrev pub PartWritten : ℕ → ℕ → ℕ → List ℕ → List ℕ → ℕ → List ℕ → Type 0
-  PartWritten at from n l list r last = Put l at (partBytes (numbers list) from n) r last
+  PartWritten at from n l list r last = Put l at (part_bytes (numbers list) from n) r last
 
   module _ (w : Width) {M : Type 1} (𝓤 : Ura M) where
     abbrev pub at-clauses : Clauses 𝓤 (ended w)

@@ -40,7 +40,7 @@ use denote.Exit.{yes}
 use denote.Signature.{plain}
 use Rattle.wire.specs.Numbers.{word_bytes}
 use Rattle.batch.specs.Writing.{Lies, PacketFits, PacketPut}
-use Rattle.batch.specs.Internal.{opened, behind, head_of, partBytes}
+use Rattle.batch.specs.Internal.{opened, behind, head_of, part_bytes}
 use Rattle.batch.specs.declared.Batch.{Batch}
 use Rattle.batch.specs.contracts.Batch as T
 use Rattle.batch.proofs.Batch.TheLaws as T'
@@ -111,7 +111,7 @@ module _ (w : Width) (name : Name) (wide : ℕ) (numbers : List ℕ → List ℕ
     h₂ = behind h₁ (word_bytes start)
 
     abbrev h₃ : Batch
-    h₃ = behind h₂ (partBytes (numbers map.now) (2 * start) (2 * count))
+    h₃ = behind h₂ (part_bytes (numbers map.now) (2 * start) (2 * count))
 
     long₁ : length h₁.buffer.now ≡ length x.now
     long₁ = length-sets x.now n (head_of 0x34 (2 + 4 * count))
@@ -120,7 +120,7 @@ module _ (w : Width) (name : Name) (wide : ℕ) (numbers : List ℕ → List ℕ
     long₂ = length-sets h₁.buffer.now h₁.filled (word_bytes start) ∙ long₁
 
     long₃ : length h₃.buffer.now ≡ length x.now
-    long₃ = length-sets h₂.buffer.now h₂.filled (partBytes (numbers map.now) (2 * start) (2 * count)) ∙ long₂
+    long₃ = length-sets h₂.buffer.now h₂.filled (part_bytes (numbers map.now) (2 * start) (2 * count)) ∙ long₂
 
     within : Lies wide map.now (2 * start + 2 * count)
     within =

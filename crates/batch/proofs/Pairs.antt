@@ -40,7 +40,7 @@ use denote.Exit.{yes}
 use denote.Signature.{Signature, plain}
 use Rattle.wire.specs.Numbers.{word_bytes}
 use Rattle.batch.specs.Writing.{Lies, PairsFit, PairsPut}
-use Rattle.batch.specs.Internal.{opened, behind, head_of, partBytes}
+use Rattle.batch.specs.Internal.{opened, behind, head_of, part_bytes}
 use Rattle.batch.specs.declared.Batch.{Batch}
 use Rattle.batch.specs.contracts.Batch as T
 use Rattle.batch.proofs.Batch.TheLaws as T'
@@ -129,7 +129,7 @@ module _ (w : Width) (name : Name) (wide : ℕ) (numbers : List ℕ → List ℕ
     h₄ = behind h₃ (word_bytes start)
 
     abbrev h₅ : Batch
-    h₅ = behind h₄ (partBytes (numbers list.now) at count)
+    h₅ = behind h₄ (part_bytes (numbers list.now) at count)
 
     long : (b : Batch) (t : List ℕ) → length b.buffer.now ≡ length x.now → length (behind b t).buffer.now ≡ length x.now
     long b t e = length-sets b.buffer.now b.filled t ∙ e
@@ -147,7 +147,7 @@ module _ (w : Width) (name : Name) (wide : ℕ) (numbers : List ℕ → List ℕ
     long₄ = long h₃ (word_bytes start) long₃
 
     long₅ : length h₅.buffer.now ≡ length x.now
-    long₅ = long h₄ (partBytes (numbers list.now) at count) long₄
+    long₅ = long h₄ (part_bytes (numbers list.now) at count) long₄
 
     -- machine values: the buffer's, the pairs', the last batch's
     abbrev s : List ℕ → Val

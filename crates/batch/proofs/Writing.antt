@@ -13,13 +13,13 @@ use Rattle.wire.proofs.Laws.{sets-append}
 use Rattle.wire.proofs.Tables.{length_pairs, length-halves}
 use Rattle.tables.proofs.Bytes.{Below, bytes-part}
 use Rattle.tables.proofs.Loops.{part-long}
-use Rattle.packet.specs.Making.{packetOf}
-use Rattle.upload.specs.Plan.{packetFor}
+use Rattle.packet.specs.Making.{packet_of}
+use Rattle.upload.specs.Plan.{packet_for}
 use Rattle.upload.specs.Parts.{part, Fits}
 use Rattle.upload.proofs.Bytes.{packet-form}
-use Rattle.batch.specs.Pairs.{pairsPacket}
+use Rattle.batch.specs.Pairs.{pairs_packet}
 use Rattle.batch.specs.Writing.{Lies, PacketPut, PairsPut}
-use Rattle.batch.specs.Internal.{Put, opened, behind, head_of, partBytes}
+use Rattle.batch.specs.Internal.{Put, opened, behind, head_of, part_bytes}
 use Rattle.batch.specs.declared.Batch.{Batch}
 
 -- Bytes behind what is filled, and bytes behind those, are both behind it.
@@ -47,20 +47,20 @@ part-over l s at h =
     )
 
 -- A part of a list, as numbers: two bytes each.
-pub long-part : (list : List ℕ) (from n : ℕ) → from + n ≤ length list → length (partBytes list from n) ≡ 2 * n
+pub long-part : (list : List ℕ) (from n : ℕ) → from + n ≤ length list → length (part_bytes list from n) ≡ 2 * n
 long-part list from n h = omega (arith, length-halves 256 (take n (drop from list)), part-long list from n h)
 
 -- Numbers written as bytes, and bytes copied, are such a part.
 module _ (l : List ℕ) (at : ℕ) (list : List ℕ) (from n : ℕ) (room : at + 2 * n ≤ length l) where
   pub numbers-put : from + n ≤ length list
-      → Put l at (partBytes list from n) (at + 2 * n)
-      (take at l ++ (over (partBytes list from n) (take (length l - at) (drop at l)) ++ drop (length l - at) (drop at l)))
+      → Put l at (part_bytes list from n) (at + 2 * n)
+      (take at l ++ (over (part_bytes list from n) (take (length l - at) (drop at l)) ++ drop (length l - at) (drop at l)))
   numbers-put h =
       let long = long-part list from n h in
-      (omega arith, part-over l (partBytes list from n) at (omega arith))
+      (omega arith, part-over l (part_bytes list from n) at (omega arith))
 
   pub bytes-put : Lies 2 list (from + n) → Below 256 list
-      → Put l at (partBytes (words list) from n) (at + 2 * n) (paste l at (drop (2 * from) list) (2 * n))
+      → Put l at (part_bytes (words list) from n) (at + 2 * n) (paste l at (drop (2 * from) list) (2 * n))
   bytes-put h small =
       let long = long-part (words list) from n (rw length_pairs (omega (arith, h.0))) in
       let pts : List ℕ = take (2 * n) (drop (2 * from) list) in
@@ -79,13 +79,13 @@ byte-lies map m h = (
 
 -- Head, start and points are the packet.
 pub packet-put : (x : MutBor (List ℕ)) (filled : ℕ) (map : List ℕ) (start count : ℕ) → Lies 2 map (start + count) → 1 ≤ count → count ≤ 126
-    → (let b : Batch = behind (behind (behind (opened x filled) (head_of 0x34 (2 + 4 * count))) (word_bytes start)) (partBytes map (2 * start) (2 * count)) in
+    → (let b : Batch = behind (behind (behind (opened x filled) (head_of 0x34 (2 + 4 * count))) (word_bytes start)) (part_bytes map (2 * start) (2 * count)) in
     PacketPut x.now filled map start count b.filled b.buffer.now)
 packet-put x filled map start count lies some few =
     let fits : Fits (length map / 2) (part start count) = record { some = some; few = few; within = omega (arith, lies.0) } in
-    let points : List ℕ = partBytes map (2 * start) (2 * count) in
+    let points : List ℕ = part_bytes map (2 * start) (2 * count) in
     let front : List ℕ = head_of 0x34 (2 + 4 * count) in
-    let same : front ++ (word_bytes start ++ points) ≡ packetFor map (part start count) = rw (packet-form (length map / 2) map (part start count) (omega (arith, lies.1)) fits) in
+    let same : front ++ (word_bytes start ++ points) ≡ packet_for map (part start count) = rw (packet-form (length map / 2) map (part start count) (omega (arith, lies.1)) fits) in
     let whole =
     behind-behind (behind (opened x filled) front) (word_bytes start) points
     ∙ behind-behind (opened x filled) front (word_bytes start ++ points) in
@@ -100,26 +100,26 @@ byte-part list m h = rw length_pairs (omega (arith, h.0))
 
 -- A packet of pairs, byte by byte; head, flag and colour, count, start and words are such a packet.
 pub pairs-form : (colour start : ℕ) (ws : List ℕ)
-    → pairsPacket colour start ws
+    → pairs_packet colour start ws
     ≡ 0x14 ∷ 0x2B ∷ (6 + 2 * length ws) % 256 ∷ (6 + 2 * length ws) / 256 ∷ 1 ∷ colour
     ∷ length ws % 256 ∷ length ws / 256 ∷ start % 256 ∷ start / 256 ∷ bytes ws
-unfolding pairsPacket packetOf
+unfolding pairs_packet packet_of
 pairs-form colour start ws =
     let long : suc (suc (suc (suc (suc (suc (length (bytes ws))))))) ≡ 6 + 2 * length ws = omega (arith, length-halves 256 ws) in
     rw (long, append-nil (bytes ws))
 
 pub pairs-put : (x : MutBor (List ℕ)) (filled : ℕ) (list : List ℕ) (from n colour start : ℕ) → from + n ≤ length list → colour < 256
     → (let front : Batch = behind (behind (opened x filled) (head_of 0x2B (6 + 2 * n))) (word_bytes (1 + 256 * colour)) in
-    let b : Batch = behind (behind (behind front (word_bytes n)) (word_bytes start)) (partBytes list from n) in
+    let b : Batch = behind (behind (behind front (word_bytes n)) (word_bytes start)) (part_bytes list from n) in
     PairsPut x.now filled list from n colour start b.filled b.buffer.now)
 pairs-put x filled list from n colour start within small =
     let h : Batch = opened x filled in
     let front : List ℕ = head_of 0x2B (6 + 2 * n) in
     let kind : List ℕ = word_bytes (1 + 256 * colour) in
-    let part : List ℕ = partBytes list from n in
+    let part : List ℕ = part_bytes list from n in
     let low : (1 + 256 * colour) % 256 ≡ 1 = omega arith in
     let high : (1 + 256 * colour) / 256 ≡ colour = omega arith in
-    let same : front ++ (kind ++ (word_bytes n ++ (word_bytes start ++ part))) ≡ pairsPacket colour start (take n (drop from list)) =
+    let same : front ++ (kind ++ (word_bytes n ++ (word_bytes start ++ part))) ≡ pairs_packet colour start (take n (drop from list)) =
     rw (pairs-form colour start (take n (drop from list)), part-long list from n within, low, high) in
     let whole =
     behind-behind (behind (behind (behind h front) kind) (word_bytes n)) (word_bytes start) part

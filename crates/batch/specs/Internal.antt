@@ -24,18 +24,18 @@ abbrev pub WordFits : List ℕ → ℕ → ℕ → Type 0
 WordFits buffer at v = (at + 2 ≤ length buffer) × (v < 65536)
 
 -- Rules 2.1 and 6.3: header 14h and opcode as one number, and with it the length: what a packet begins with.
-abbrev pub firstWord : ℕ → ℕ
-firstWord opcode = 0x14 + 256 * opcode
+abbrev pub first_word : ℕ → ℕ
+first_word opcode = 0x14 + 256 * opcode
 
 abbrev pub head_of : ℕ → ℕ → List ℕ
-head_of opcode size = word_bytes (firstWord opcode) ++ word_bytes size
+head_of opcode size = word_bytes (first_word opcode) ++ word_bytes size
 
 abbrev pub HeadFits : List ℕ → ℕ → ℕ → ℕ → Type 0
 HeadFits buffer at opcode size = (at + 4 ≤ length buffer) × (opcode < 256) × (size < 65536)
 
 -- The bytes of n numbers of a list from a place on; they have room in a buffer, and lie in a list that is lent as so many elements a number.
-abbrev pub partBytes : List ℕ → ℕ → ℕ → List ℕ
-partBytes list from n = bytes (take n (drop from list))
+abbrev pub part_bytes : List ℕ → ℕ → ℕ → List ℕ
+part_bytes list from n = bytes (take n (drop from list))
 
 abbrev pub PartFits : ℕ → List ℕ → ℕ → List ℕ → ℕ → ℕ → Type 0
 PartFits each buffer at list from n = (at + 2 * n ≤ length buffer) × Lies each list (from + n)

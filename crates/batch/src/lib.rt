@@ -1,12 +1,14 @@
 // A batch under writing: packets, one behind the other, in the caller's buffer. A packet is its head, then numbers of 16 bits, one by one or as a
 // part of a list. The functions that take a `Batch` are thin; what they write is written by a plain function on the buffer and the place. Two
 // families of the same names: lists of 16-bit numbers, and lists lent as their bytes.
+#![tactic(auto)]
+
 pub mod bytes;
 pub mod numbers;
 
 ghost use Rattle.std.specs.Prelude.{◌≡◌, ◌<◌};
 ghost use Rattle.wire.specs.Numbers.{word_bytes};
-ghost use Rattle.batch.specs.Internal.{Put, opened, behind, WordFits, firstWord, head_of, HeadFits};
+ghost use Rattle.batch.specs.Internal.{Put, opened, behind, WordFits, «first_word», head_of, HeadFits};
 
 // Rule 6.6: the caller's buffer, and how far it is filled.
 #[derive(Drop)]
@@ -47,7 +49,7 @@ fn word<'a>(batch: Batch<'a>, v: usize) -> Batch<'a>
 // Header 14h and the opcode, as one number.
 fn first_word(opcode: usize) -> usize
     requires { opcode < 256 }
-    ensures { result ≡ firstWord opcode }
+    ensures { result ≡ «first_word» opcode }
 {
     0x14 + 256 * opcode
 }

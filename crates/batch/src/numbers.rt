@@ -1,14 +1,14 @@
 // Packets of lists of 16-bit numbers.
 ghost use Rattle.std.specs.Prelude.{◌≡◌};
 ghost use Rattle.batch.specs.Writing.{PacketFits, PacketPut, PairsFit, PairsPut};
-ghost use Rattle.batch.specs.Internal.{Put, behind, partBytes, PartFits};
+ghost use Rattle.batch.specs.Internal.{Put, behind, part_bytes, PartFits};
 
 use crate::Batch;
 
 // So many numbers of a list from a place on: where the next goes.
 fn words_at(buffer: &mut [u8], at: usize, list: &[u16], from: usize, n: usize) -> usize
     requires { PartFits 1 buffer.old at list.now from n }
-    ensures { Put buffer.old at (partBytes list.now from n) result buffer.new }
+    ensures { Put buffer.old at (part_bytes list.now from n) result buffer.new }
 {
     tables::words_out(&mut buffer[at..], list, from, n);
     at + 2 * n
@@ -17,7 +17,7 @@ fn words_at(buffer: &mut [u8], at: usize, list: &[u16], from: usize, n: usize) -
 // The same behind what is filled.
 fn words<'a, 'b>(batch: Batch<'a>, list: &'b [u16], from: usize, n: usize) -> Batch<'a>
     requires { PartFits 1 batch.buffer.now batch.filled list.now from n }
-    ensures { result ≡ behind batch.entry (partBytes list.now from n) }
+    ensures { result ≡ behind batch.entry (part_bytes list.now from n) }
 {
     let at = batch.filled;
     let filled = words_at(&mut *batch.buffer, at, list, from, n);

@@ -1,5 +1,7 @@
 // Reads each bench packet of rule 8.1, says what it found, and makes the packet again from its reading; then plans the uploads of
 // the bench maps, and compresses and splits gains.
+#![tactic(auto)]
+
 ghost use Rattle.std.specs.Prelude.{◌≤◌, ◌<◌, ◌≡◌, length, take};
 
 use packet::Reading;

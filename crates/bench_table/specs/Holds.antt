@@ -5,30 +5,30 @@ use Rattle.wire.specs.Buffers.{over}
 use Rattle.wire.specs.Tables.{bytes}
 use Rattle.front_end.specs.Step.{Out, out}
 use Rattle.front_end.specs.Demands.{Handled}
-use Rattle.front_end_bytes.specs.Bytes.{LentOut, lent_of, outBytes}
+use Rattle.front_end_bytes.specs.Bytes.{LentOut, lent_of, out_bytes}
 use Rattle.front_end_bytes.specs.Promises.{HandledBytes}
 use Rattle.upload.specs.Plain.{PlanOut}
-use Rattle.upload.specs.Planning.{planLists, planOut, listBytes, bytePlanOut, Planned, PlannedBytes}
-use Rattle.bench_table.specs.Table.{PacketRow, PlanRow, BenchRow, packets, plans, buffer, blank, stateAfter}
+use Rattle.upload.specs.Planning.{plan_lists, plan_out, list_bytes, byte_plan_out, Planned, PlannedBytes}
+use Rattle.bench_table.specs.Table.{PacketRow, PlanRow, BenchRow, packets, plans, buffer, blank, state_after}
 
 -- The answer and all that was lent, as the row says.
-abbrev pub packetOut : PacketRow → Out
-packetOut r = out r.status r.fault-place (length r.reply) r.after (over r.reply buffer)
+abbrev pub packet_out : PacketRow → Out
+packet_out r = out r.status r.fault-place (length r.reply) r.after (over r.reply buffer)
 
-abbrev pub planRowOut : PlanRow → PlanOut
-planRowOut r = planOut r.status r.packets r.bytes (planLists r.plan r.room r.choices r.batch)
+abbrev pub plan_row_out : PlanRow → PlanOut
+plan_row_out r = plan_out r.status r.packets r.bytes (plan_lists r.plan r.room r.choices r.batch)
 
 -- A packet's row, of the entries on numbers and on bytes.
 pub record PacketHolds (r : PacketRow) : Type 0 where
-  pub on-numbers : (o : Out) → Handled r.packet (stateAfter r.before) buffer o → o ≡ packetOut r
-  pub on-bytes : (o : LentOut) → HandledBytes r.packet (lent_of (stateAfter r.before)) buffer o
-      → o ≡ outBytes (packetOut r)
+  pub on-numbers : (o : Out) → Handled r.packet (state_after r.before) buffer o → o ≡ packet_out r
+  pub on-bytes : (o : LentOut) → HandledBytes r.packet (lent_of (state_after r.before)) buffer o
+      → o ≡ out_bytes (packet_out r)
 
 -- A plan's row, likewise.
 pub record PlanHolds (r : PlanRow) : Type 0 where
-  pub on-numbers : (o : PlanOut) → Planned r.n r.held r.wanted blank o → o ≡ planRowOut r
-  pub on-bytes : (o : PlanOut) → PlannedBytes r.n (bytes r.held) (bytes r.wanted) (listBytes blank) o
-      → o ≡ bytePlanOut (planRowOut r)
+  pub on-numbers : (o : PlanOut) → Planned r.n r.held r.wanted blank o → o ≡ plan_row_out r
+  pub on-bytes : (o : PlanOut) → PlannedBytes r.n (bytes r.held) (bytes r.wanted) (list_bytes blank) o
+      → o ≡ byte_plan_out (plan_row_out r)
 
 -- Every row of a list holds.
 pub data EachHolds : List BenchRow → Type 0 where

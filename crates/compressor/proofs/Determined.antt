@@ -15,7 +15,7 @@ use Rattle.wire.proofs.Tables.{length_pairs, halves_pairs}
 use Rattle.gain_words.specs.Pairs.{expand}
 use Rattle.gain_words.specs.Plain.{Pairs, none, pair}
 use Rattle.compressor.specs.Compress.{push, compressed}
-use Rattle.compressor.specs.Compressing.{compressOut}
+use Rattle.compressor.specs.Compressing.{compress_out}
 use Rattle.compressor.specs.Plain.{CompressOut, FewestPairs, CompressPlain, CompressPlainNumbers, CompressPlainBytes}
 use Rattle.compressor.proofs.Fewest.{Pushed, opens, alone, longer, pushed, pushed-again, run-in-front, fewest-words, expand-compressed}
 
@@ -63,7 +63,7 @@ settled : {S : Type 0} {m n : ℕ} → (S → m ≡ n) → ((S → ⊥) → m �
 settled {m = m} {n = n} f g = elim (ℕ_discrete m n) [ yes e ↦ e | no h ↦ absurd (h (g (λ s. h (f s)))) ]
 
 -- An outcome is its three fields; a list its two parts.
-same-fields : {s t m n : ℕ} {k l : List ℕ} → s ≡ t → m ≡ n → k ≡ l → compressOut s m k ≡ compressOut t n l
+same-fields : {s t m n : ℕ} {k l : List ℕ} → s ≡ t → m ≡ n → k ≡ l → compress_out s m k ≡ compress_out t n l
 same-fields e f g = cc
 
 joined : {a b c d : List ℕ} → a ≡ b → c ≡ d → a ++ c ≡ b ++ d

@@ -8,7 +8,7 @@ use native.Mathlib.Omega.{arith}
 use borrow.Author.Tests.{eqb-true, eq-eqb}
 use lib.ListN.{length, get_or, replicate}
 use lib.Dec.{eqb}
-use Rattle.gain_words.specs.Pairs.{expand, sumRuns}
+use Rattle.gain_words.specs.Pairs.{expand, sum_runs}
 use Rattle.gain_words.specs.Plain.{Pairs, none, pair}
 use Rattle.compressor.specs.Compress.{push, compressed}
 use Rattle.compressor.specs.Plain.{Compressible, FewestPairs}
@@ -36,8 +36,8 @@ pushed-gains opens = refl
 pushed-gains alone = refl
 pushed-gains longer = refl
 
-pushed-sum : {gain : ℕ} {ws vs : List ℕ} → Pushed gain ws vs → sumRuns vs ≡ 1 + sumRuns ws
-unfolding sumRuns
+pushed-sum : {gain : ℕ} {ws vs : List ℕ} → Pushed gain ws vs → sum_runs vs ≡ 1 + sum_runs ws
+unfolding sum_runs
 pushed-sum opens = refl
 pushed-sum alone = refl
 pushed-sum longer = omega arith
@@ -59,8 +59,8 @@ pushed-again {gain} opens = rw (eq-eqb gain gain refl)
 pushed-again {gain} alone = rw (eq-eqb gain gain refl)
 pushed-again {gain} longer = rw (eq-eqb gain gain refl)
 
-pushed-sent : {gain : ℕ} {ws vs : List ℕ} → Pushed gain ws vs → gain ≤ 8191 → sumRuns ws < 2016 → Pairs ws → Pairs vs
-unfolding sumRuns
+pushed-sent : {gain : ℕ} {ws vs : List ℕ} → Pushed gain ws vs → gain ≤ 8191 → sum_runs ws < 2016 → Pairs ws → Pairs vs
+unfolding sum_runs
 pushed-sent opens g s p = pair {run = 1} (omega arith) (omega arith) g p
 pushed-sent alone g s p = pair {run = 1} (omega arith) (omega arith) g none
 pushed-sent (longer {run = n}) g s (pair some few small rest) = pair {run = suc n} (omega arith) (omega arith) g rest
@@ -72,8 +72,8 @@ expand-compressed [] = refl
 expand-compressed (gain ∷ gains) = pushed-gains (pushed gain (compressed gains)) ∙ rw (expand-compressed gains)
 
 -- Their runs sum up to the number of gains.
-pub sum-compressed : (gains : List ℕ) → sumRuns (compressed gains) ≡ length gains
-unfolding compressed sumRuns
+pub sum-compressed : (gains : List ℕ) → sum_runs (compressed gains) ≡ length gains
+unfolding compressed sum_runs
 sum-compressed [] = refl
 sum-compressed (gain ∷ gains) = omega (arith, pushed-sum (pushed gain (compressed gains)), sum-compressed gains)
 

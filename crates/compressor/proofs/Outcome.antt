@@ -18,18 +18,18 @@ use Rattle.wire.specs.Buffers.{over}
 use Rattle.wire.proofs.Laws.{take-over}
 use Rattle.wire.proofs.Tables.{length_pairs, pairs-over}
 use Rattle.wire.proofs.Tests.{told}
-use Rattle.gain_words.specs.Gains.{firstLarge}
+use Rattle.gain_words.specs.Gains.{first_large}
 use Rattle.gain_words.proofs.Right.{gains-small, small-gains}
 use Rattle.compressor.specs.Compress.{compressed}
 use Rattle.compressor.specs.Plain.{CompressOut, Compressible, GainBytesRight, CompressPlain, CompressPlainNumbers, CompressPlainBytes}
-use Rattle.compressor.specs.Compressing.{compressOut, pairsRoom, countWrong, someLarge, compressRefusals, byteRefusals, compressedBy, compressing, compressingBytes, CompressedNumbers, numbersIn, CompressedBytes}
-use Rattle.compressor.specs.Internal.{refusalsOf, PairsWritten}
+use Rattle.compressor.specs.Compressing.{compress_out, pairs_room, count_wrong, some_large, compress_refusals, byte_refusals, compressed_by, compressing, compressing_bytes, CompressedNumbers, numbers_in, CompressedBytes}
+use Rattle.compressor.specs.Internal.{refusals_of, PairsWritten}
 use Rattle.compressor.proofs.Fewest.{compressed-two, compressed-length, fewest-pairs}
 use Rattle.compressor.proofs.Writing.{Way, as-numbers, as_bytes}
 
 -- The tests of count and gains say what can be compressed.
 gains-tested : (odd : Bool) (gains : List ℕ)
-    → (odd || countWrong (length gains) || someLarge gains ≡ false) ↔ ((odd ≡ false) × Compressible gains)
+    → (odd || count_wrong (length gains) || some_large gains ≡ false) ↔ ((odd ≡ false) × Compressible gains)
 gains-tested odd gains = (
   λ e. (
     search (told, e),
@@ -40,7 +40,7 @@ gains-tested odd gains = (
     },
   ),
   λ (even, r).
-      let behind : length gains ≤ firstLarge gains = omega (arith, small-gains gains r.small) in
+      let behind : length gains ≤ first_large gains = omega (arith, small-gains gains r.small) in
       rw (even, le-leb 1 (length gains) r.some, le-leb (length gains) 2016 r.few, le-ltb _ _ behind),
 )
 
@@ -81,10 +81,10 @@ module _ {each : ℕ} {put read : List ℕ → List ℕ} (way : Way each put rea
       go false true e f z = absurd (omega arith)
       go false false e f z = (tested.0 e, ltb-false (length room) (each * 2016) f)
 
-  promised : CompressPlain each read right gains room (compressedBy (number_of wrong short) put gains room)
+  promised : CompressPlain each read right gains room (compressed_by (number_of wrong short) put gains room)
   promised = go wrong short refl refl
     where
-      go : (a b : Bool) → wrong ≡ a → short ≡ b → CompressPlain each read right gains room (compressedBy (number_of a b) put gains room)
+      go : (a b : Bool) → wrong ≡ a → short ≡ b → CompressPlain each read right gains room (compressed_by (number_of a b) put gains room)
       go true b e f =
           record {
             exactly = (λ z. absurd (omega arith), λ r. absurd (never e (tested.1 r.0)));
@@ -126,18 +126,18 @@ module _ {each : ℕ} {put read : List ℕ → List ℕ} (way : Way each put rea
 -- On numbers.
 module _ (gains room : List ℕ) where
   abbrev wrong : Bool
-  wrong = countWrong (length gains) || someLarge gains
+  wrong = count_wrong (length gains) || some_large gains
 
   abbrev pub refusal : ℕ
-  refusal = first (compressRefusals gains (ltb (length room) pairsRoom))
+  refusal = first (compress_refusals gains (ltb (length room) pairs_room))
 
   -- The code's number is this one.
-  pub asked : {number : ℕ} {large : Bool} → number ≡ first (refusalsOf false (length gains) large (ltb (length room) pairsRoom))
-      → large ≡ someLarge gains → number ≡ refusal
+  pub asked : {number : ℕ} {large : Bool} → number ≡ first (refusals_of false (length gains) large (ltb (length room) pairs_room))
+      → large ≡ some_large gains → number ≡ refusal
   asked e l = rw l at e
 
-  judged : refusal ≡ number_of wrong (ltb (length room) pairsRoom)
-  judged = tens false (countWrong (length gains)) (someLarge gains) _
+  judged : refusal ≡ number_of wrong (ltb (length room) pairs_room)
+  judged = tens false (count_wrong (length gains)) (some_large gains) _
 
   tested : (wrong ≡ false) ↔ Compressible gains
   tested = (λ e. ((gains-tested false gains).0 e).1, λ r. (gains-tested false gains).1 (refl, r))
@@ -156,12 +156,12 @@ module _ (gains room : List ℕ) where
             (promised as-numbers gains room wrong tested (λ r. r));
       }
 
-  pub refused : {number : ℕ} → number ≡ refusal → (number ≡ 0 → ⊥) → CompressedNumbers gains room (compressOut number 0 room)
+  pub refused : {number : ℕ} → number ≡ refusal → (number ≡ 0 → ⊥) → CompressedNumbers gains room (compress_out number 0 room)
   unfolding compressing
   refused {number} e h = compressed-numbers (rw (← e, ne_eqb number 0 h))
 
   pub done : {pairs : ℕ} {left : List ℕ} → refusal ≡ 0 → PairsWritten (λ ws. ws) gains room pairs left
-      → CompressedNumbers gains room (compressOut 0 pairs left)
+      → CompressedNumbers gains room (compress_out 0 pairs left)
   unfolding compressing
   done e w = compressed-numbers (rw (e, w.many, w.room-is))
 
@@ -171,17 +171,17 @@ module _ (gains room : List ℕ) where
   odd = not (eqb (length gains % 2) 0)
 
   abbrev wrong-bytes : Bool
-  wrong-bytes = odd || countWrong (length (words gains)) || someLarge (words gains)
+  wrong-bytes = odd || count_wrong (length (words gains)) || some_large (words gains)
 
   abbrev pub refusal-bytes : ℕ
-  refusal-bytes = first (byteRefusals gains room)
+  refusal-bytes = first (byte_refusals gains room)
 
-  pub asked-bytes : {number : ℕ} {large : Bool} → number ≡ first (refusalsOf odd (length gains / 2) large (ltb (length room) (2 * pairsRoom)))
-      → large ≡ someLarge (words gains) → number ≡ refusal-bytes
+  pub asked-bytes : {number : ℕ} {large : Bool} → number ≡ first (refusals_of odd (length gains / 2) large (ltb (length room) (2 * pairs_room)))
+      → large ≡ some_large (words gains) → number ≡ refusal-bytes
   asked-bytes e l = rw (l, ← length_pairs 256 gains) at e
 
-  judged-bytes : refusal-bytes ≡ number_of wrong-bytes (ltb (length room) (2 * pairsRoom))
-  judged-bytes = tens odd (countWrong (length (words gains))) (someLarge (words gains)) _
+  judged-bytes : refusal-bytes ≡ number_of wrong-bytes (ltb (length room) (2 * pairs_room))
+  judged-bytes = tens odd (count_wrong (length (words gains))) (some_large (words gains)) _
 
   tested-bytes : (wrong-bytes ≡ false) ↔ GainBytesRight gains
   tested-bytes = (
@@ -193,31 +193,31 @@ module _ (gains room : List ℕ) where
   fit-bytes z = fit as_bytes (words gains) room wrong-bytes tested-bytes (λ r. r.numbers) (sym judged-bytes ∙ z)
 
   -- Of an even number of bytes the answer on numbers: the same number, and the same pairs over the start of the room's numbers.
-  same-short : ltb (length room) (2 * pairsRoom) ≡ ltb (length (words room)) pairsRoom
+  same-short : ltb (length room) (2 * pairs_room) ≡ ltb (length (words room)) pairs_room
   same-short =
       let long = length_pairs 256 room in
-      elim (dec_lt (length room) (2 * pairsRoom)) [
-        | yes h ↦ lt-ltb (length room) (2 * pairsRoom) h ∙ sym (lt-ltb (length (words room)) pairsRoom (omega arith))
-        | no h ↦ le-ltb (length room) (2 * pairsRoom) (omega arith) ∙ sym (le-ltb (length (words room)) pairsRoom (omega arith))
+      elim (dec_lt (length room) (2 * pairs_room)) [
+        | yes h ↦ lt-ltb (length room) (2 * pairs_room) h ∙ sym (lt-ltb (length (words room)) pairs_room (omega arith))
+        | no h ↦ le-ltb (length room) (2 * pairs_room) (omega arith) ∙ sym (le-ltb (length (words room)) pairs_room (omega arith))
       ]
 
   same_number : length gains % 2 ≡ 0 → refusal-bytes ≡ refusal (words gains) (words room)
   same_number even = rw (even, same-short)
 
   in-numbers : (number : ℕ)
-      → numbersIn (compressedBy number bytes (words gains) room) ≡ compressedBy number (λ ws. ws) (words gains) (words room)
+      → numbers_in (compressed_by number bytes (words gains) room) ≡ compressed_by number (λ ws. ws) (words gains) (words room)
   in-numbers number = go (eqb number 0)
     where
       go : (b : Bool)
-          → numbersIn
-          (cond b (compressOut 0 (length (compressed (words gains)) / 2) (over (bytes (compressed (words gains))) room)) (compressOut number 0 room))
-          ≡ cond b (compressOut 0 (length (compressed (words gains)) / 2) (over (compressed (words gains)) (words room)))
-          (compressOut number 0 (words room))
+          → numbers_in
+          (cond b (compress_out 0 (length (compressed (words gains)) / 2) (over (bytes (compressed (words gains))) room)) (compress_out number 0 room))
+          ≡ cond b (compress_out 0 (length (compressed (words gains)) / 2) (over (compressed (words gains)) (words room)))
+          (compress_out number 0 (words room))
       go true = rw (pairs-over 256 (compressed (words gains)) room)
       go false = refl
 
-  pub compressed-bytes : {o : CompressOut} → o ≡ compressingBytes gains room → CompressedBytes gains room o
-  unfolding compressing compressingBytes
+  pub compressed-bytes : {o : CompressOut} → o ≡ compressing_bytes gains room → CompressedBytes gains room o
+  unfolding compressing compressing_bytes
   compressed-bytes e =
       record {
         outcome = e;
@@ -226,14 +226,14 @@ module _ (gains room : List ℕ) where
             (promised as_bytes (words gains) room wrong-bytes tested-bytes (λ r. r.numbers));
         numbers = λ even.
             compressed-numbers (words gains) (words room)
-            (ap numbersIn e ∙ in-numbers refusal-bytes ∙ ap (λ (n : ℕ). compressedBy n (λ ws. ws) (words gains) (words room)) (same_number even));
+            (ap numbers_in e ∙ in-numbers refusal-bytes ∙ ap (λ (n : ℕ). compressed_by n (λ ws. ws) (words gains) (words room)) (same_number even));
       }
 
-  pub refused-bytes : {number : ℕ} → number ≡ refusal-bytes → (number ≡ 0 → ⊥) → CompressedBytes gains room (compressOut number 0 room)
-  unfolding compressingBytes
+  pub refused-bytes : {number : ℕ} → number ≡ refusal-bytes → (number ≡ 0 → ⊥) → CompressedBytes gains room (compress_out number 0 room)
+  unfolding compressing_bytes
   refused-bytes {number} e h = compressed-bytes (rw (← e, ne_eqb number 0 h))
 
   pub done-bytes : {pairs : ℕ} {left : List ℕ} → refusal-bytes ≡ 0 → PairsWritten bytes (words gains) room pairs left
-      → CompressedBytes gains room (compressOut 0 pairs left)
-  unfolding compressingBytes
+      → CompressedBytes gains room (compress_out 0 pairs left)
+  unfolding compressing_bytes
   done-bytes e w = compressed-bytes (rw (e, w.many, w.room-is))

@@ -17,8 +17,8 @@ use Rattle.wire.specs.Tables.{words, bytes}
 use Rattle.wire.proofs.Laws.{sets-append}
 use Rattle.wire.proofs.Tables.{halves-append, length-halves, pairs-halves}
 use Rattle.compressor.specs.Compress.{push, compressed}
-use Rattle.gain_words.specs.Gains.{mostGain, firstLarge}
-use Rattle.compressor.specs.Compressing.{someLarge}
+use Rattle.gain_words.specs.Gains.{most_gain, first_large}
+use Rattle.compressor.specs.Compressing.{some_large}
 use Rattle.compressor.specs.Internal.{lead, highest, PairsWritten}
 use Rattle.compressor.proofs.Fewest.{compressed-two, compressed-length}
 
@@ -56,24 +56,24 @@ module _ (gains : List ℕ) (i : ℕ) where
   high-done h = rw (drop_of_length-le gains {i = i} h)
 
 -- It is over 8,191 exactly if some gain is.
-pub high-large : (gains : List ℕ) → ltb mostGain (highest gains) ≡ someLarge gains
-unfolding highest firstLarge
+pub high-large : (gains : List ℕ) → ltb most_gain (highest gains) ≡ some_large gains
+unfolding highest first_large
 high-large [] = refl
 high-large (gain ∷ gains) =
     let behind = high-large gains in
     let high = highest gains in
-    let first = firstLarge gains in
-    elim (dec_le gain mostGain) [
-      | no l ↦ rw (lt-leb gain mostGain (omega arith)) (lt-ltb mostGain (max gain high) (omega arith) ∙ sym (lt-ltb 0 (suc (length gains)) (omega arith)))
+    let first = first_large gains in
+    elim (dec_le gain most_gain) [
+      | no l ↦ rw (lt-leb gain most_gain (omega arith)) (lt-ltb most_gain (max gain high) (omega arith) ∙ sym (lt-ltb 0 (suc (length gains)) (omega arith)))
       | yes l ↦
-          rw (le-leb gain mostGain l)
-          (elim (dec_lt mostGain high) [
+          rw (le-leb gain most_gain l)
+          (elim (dec_lt most_gain high) [
             | yes h ↦
-                let inside = ltb-true first (length gains) (sym behind ∙ lt-ltb mostGain high h) in
-                lt-ltb mostGain (max gain high) (omega arith) ∙ sym (lt-ltb (suc first) (suc (length gains)) (omega arith))
+                let inside = ltb-true first (length gains) (sym behind ∙ lt-ltb most_gain high h) in
+                lt-ltb most_gain (max gain high) (omega arith) ∙ sym (lt-ltb (suc first) (suc (length gains)) (omega arith))
             | no h ↦
-                let past = ltb-false first (length gains) (sym behind ∙ le-ltb mostGain high (omega arith)) in
-                le-ltb mostGain (max gain high) (omega arith) ∙ sym (le-ltb (suc first) (suc (length gains)) (omega arith))
+                let past = ltb-false first (length gains) (sym behind ∙ le-ltb most_gain high (omega arith)) in
+                le-ltb most_gain (max gain high) (omega arith) ∙ sym (le-ltb (suc first) (suc (length gains)) (omega arith))
           ])
     ]
 

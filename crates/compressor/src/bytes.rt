@@ -3,7 +3,7 @@ ghost use Rattle.std.specs.Prelude.{◌≡◌, [], ◌∷◌, ◌+◌, ◌*◌, 
 ghost use Rattle.std.proofs.lemmas.List.Edits.{sets};
 ghost use Rattle.wire.specs.Numbers.{word_at};
 ghost use Rattle.wire.specs.Tables.{words, bytes};
-ghost use Rattle.compressor.specs.Compressing.{someLarge, CompressedBytes};
+ghost use Rattle.compressor.specs.Compressing.{«some_large», CompressedBytes};
 ghost use Rattle.compressor.specs.Internal.{lead, PairsWritten};
 
 use super::{Compressed, PAIRS_ROOM};
@@ -13,7 +13,7 @@ const ROOM_BYTES: usize = 2 * PAIRS_ROOM;
 
 // Whether a gain is too large. Without an early return a compiler takes many gains at a time.
 fn some_large(gains: &[u8]) -> bool
-    ensures { result ≡ someLarge (words gains.now) }
+    ensures { result ≡ «some_large» (words gains.now) }
 {
     let n = gains.len() / 2;
     let mut most = 0;

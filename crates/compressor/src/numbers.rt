@@ -1,14 +1,14 @@
 // Gains and pairs as 16-bit numbers.
 ghost use Rattle.std.specs.Prelude.{◌≡◌, [], ◌∷◌, ◌+◌, ◌*◌, ◌≤◌, ◌<◌, length, drop, get_or};
 ghost use Rattle.std.proofs.lemmas.List.Edits.{sets};
-ghost use Rattle.compressor.specs.Compressing.{someLarge, CompressedNumbers};
+ghost use Rattle.compressor.specs.Compressing.{«some_large», CompressedNumbers};
 ghost use Rattle.compressor.specs.Internal.{lead, PairsWritten};
 
 use super::{Compressed, PAIRS_ROOM};
 
 // Whether a gain is too large. Without an early return a compiler takes many gains at a time.
 fn some_large(gains: &[u16]) -> bool
-    ensures { result ≡ someLarge gains.now }
+    ensures { result ≡ «some_large» gains.now }
 {
     let mut most = 0;
     let mut i = 0;

@@ -11,36 +11,36 @@ use Rattle.wire.specs.Tables.{words, bytes}
 use Rattle.wire.specs.Plain.{Bytes}
 use Rattle.wire.proofs.Tables.{pairs-take, halves-take, halves-drop, halves-paste, halves-below, length-halves}
 use Rattle.tables.proofs.Bytes.{words-below, bytes-words, length-words, length-words-of}
-use Rattle.gain_words.specs.Pairs.{expand, sumRuns}
+use Rattle.gain_words.specs.Pairs.{expand, sum_runs}
 use Rattle.gain_words.specs.Plain.{Pairs}
 use Rattle.gain_words.proofs.Expand.{pairs-both, sum-append}
 use Rattle.gain_words.proofs.Right.{pairs-even}
 use Rattle.row_mark.specs.Bits.{bit_at}
 use Rattle.front_end.specs.State.{State}
-use Rattle.front_end.specs.Effects.{gainsWith}
+use Rattle.front_end.specs.Effects.{gains_with}
 use Rattle.front_end.specs.Rows.{mark_of, RowRight, MarkRight}
-use Rattle.front_end.specs.Plain.{stagedPoints}
+use Rattle.front_end.specs.Plain.{staged_points}
 use Rattle.front_end.specs.Calls.{calls_of}
 use Rattle.front_end.proofs.Bounds.{counts}
 use Rattle.front_end.proofs.Demands.{lent, runs, right-running}
-use Rattle.front_end_bytes.specs.Bytes.{Lent, stateIn, lent_of}
+use Rattle.front_end_bytes.specs.Bytes.{Lent, state_in, lent_of}
 use Rattle.front_end_bytes.proofs.Promises.{wide-lent}
-use Rattle.upload.specs.Plan.{Part, packetFor, packetsOf}
+use Rattle.upload.specs.Plan.{Part, packet_for, packets_of}
 use Rattle.upload.specs.Parts.{InOrder}
 use Rattle.upload.specs.Judge.{MapOf}
 use Rattle.upload.proofs.Lists.{plan-in-order}
 use Rattle.upload.proofs.Bytes.{packet-bytes}
-use Rattle.batch.specs.Pairs.{pairsPacket}
+use Rattle.batch.specs.Pairs.{pairs_packet}
 use Rattle.batch.proofs.Writing.{pairs-form}
 use Rattle.splitter.specs.Plain.{CutUp, Splittable}
-use Rattle.splitter.specs.Split.{splitPackets}
+use Rattle.splitter.specs.Split.{split_packets}
 use Rattle.splitter.proofs.Cutting.{cut_up}
 use Rattle.compressor.specs.Compress.{compressed}
 use Rattle.compressor.specs.Plain.{Compressible}
 use Rattle.compressor.proofs.Fewest.{expand-compressed}
 use Rattle.end_to_end.specs.Gains.{Blended}
-use Rattle.end_to_end.specs.Chains.{lentAfterAll, PacketBytes, LentRightBytes}
-use Rattle.end_to_end.specs.OnBytes.{MapBytes, DeliveredBytes, gainBytesWith, BlendedBytes, GainsDeliveredBytes}
+use Rattle.end_to_end.specs.Chains.{lent_after_all, PacketBytes, LentRightBytes}
+use Rattle.end_to_end.specs.OnBytes.{MapBytes, DeliveredBytes, gain_bytes_with, BlendedBytes, GainsDeliveredBytes}
 use Rattle.end_to_end.proofs.Sent.{delivered}
 use Rattle.end_to_end.proofs.Pairs.{gains-delivered, compressed-splittable}
 use Rattle.end_to_end.proofs.Chains.{own-bytes, same-on-bytes, stored_bytes, numbers-right}
@@ -56,24 +56,24 @@ map-own {n} {map} m = bytes-words map (omega (arith, m.long)) m.bytes
 
 -- The plan's packets are bytes.
 plan-packets : (n : ℕ) → n ≤ 65536 → (wanted reply : List ℕ) → MapOf n wanted → {i : ℕ} {ps : List Part} → InOrder n i ps
-    → PacketBytes (calls_of reply (map (packetFor wanted) ps))
+    → PacketBytes (calls_of reply (map (packet_for wanted) ps))
 plan-packets n small wanted reply w InOrder.none = PacketBytes.none
 plan-packets n small wanted reply w (InOrder.next {p = p} l f o) = PacketBytes.next (packet-bytes n small wanted w p f) (plan-packets n small wanted reply w o)
 
 pub delivered-bytes : (n : ℕ) (held wanted : List ℕ) → MapBytes n held → MapBytes n wanted → (l : Lent) (reply : List ℕ) → LentRightBytes l reply
-    → stagedPoints l.block ≡ n → take (4 * n) l.staged ≡ held → DeliveredBytes n held wanted l reply
-unfolding packetsOf
+    → staged_points l.block ≡ n → take (4 * n) l.staged ≡ held → DeliveredBytes n held wanted l reply
+unfolding packets_of
 delivered-bytes n held wanted h w l reply r e t =
     let right = numbers-right r in
-    let going = runs (stateIn l) reply (right-running right) in
+    let going = runs (state_in l) reply (right-running right) in
     let own = own-bytes l r.long r.bytes in
     let twice : 4 * n ≡ 2 * (2 * n) = omega arith in
-    let few : n ≤ 65536 = omega (arith, (counts l.block (lent (stateIn l) reply going).settings).points) in
+    let few : n ≤ 65536 = omega (arith, (counts l.block (lent (state_in l) reply going).settings).points) in
     let packets = plan-packets n few (words wanted) reply (map-held w) (plan-in-order n (words held) (words wanted) (map-held h).long (map-held w).long) in
-    let all = same-on-bytes (calls_of reply (packetsOf (words held) (words wanted))) packets l r.long own in
+    let all = same-on-bytes (calls_of reply (packets_of (words held) (words wanted))) packets l r.long own in
     let left = all.bytes_left in
     let front : take (2 * n) (words l.staged) ≡ words held = sym (pairs-take 256 (2 * n) l.staged) ∙ ap words (ap (λ (k : ℕ). take k l.staged) (sym twice) ∙ t) in
-    let d = delivered n (words held) (words wanted) (map-held h) (map-held w) (stateIn l) reply going e front in
+    let d = delivered n (words held) (words wanted) (map-held h) (map-held w) (state_in l) reply going e front in
     record {
       turned =
           ap (λ (k : Lent). take (4 * n) k.staged) left
@@ -114,12 +114,12 @@ form-bytes colour start n l c s m b (suc (suc (suc (suc (suc (suc (suc (suc zero
 form-bytes colour start n l c s m b (suc (suc (suc (suc (suc (suc (suc (suc (suc zero))))))))) = omega arith
 form-bytes colour start n l c s m b (suc (suc (suc (suc (suc (suc (suc (suc (suc (suc k)))))))))) = b k
 
-pairs-packet-bytes : (colour start : ℕ) (ws : List ℕ) → colour ≤ 3 → start ≤ 2016 → length ws ≤ 250 → Pairs ws → Bytes (pairsPacket colour start ws)
+pairs-packet-bytes : (colour start : ℕ) (ws : List ℕ) → colour ≤ 3 → start ≤ 2016 → length ws ≤ 250 → Pairs ws → Bytes (pairs_packet colour start ws)
 pairs-packet-bytes colour start ws c s few right =
     rw (pairs-form colour start ws) (form-bytes colour start (length ws) (bytes ws) c s few (halves-below 256 ws (pair-words right)))
 
 -- The splitter's packets are bytes.
-cut-packets : {colour start : ℕ} {ws : List ℕ} {ps : List (List ℕ)} → CutUp colour start ws ps → (reply : List ℕ) → Pairs ws → colour ≤ 3 → start + sumRuns ws ≤ 2016
+cut-packets : {colour start : ℕ} {ws : List ℕ} {ps : List (List ℕ)} → CutUp colour start ws ps → (reply : List ℕ) → Pairs ws → colour ≤ 3 → start + sum_runs ws ≤ 2016
     → PacketBytes (calls_of reply ps)
 cut-packets {colour} (CutUp.last {start} {ws} some few) reply right c within =
     PacketBytes.next (pairs-packet-bytes colour start ws c (omega arith) few right) PacketBytes.none
@@ -130,7 +130,7 @@ cut-packets {colour} (CutUp.more {start} ws rest {ps} full some cut) reply right
     PacketBytes.next (pairs-packet-bytes colour start ws c (omega arith) (omega arith) both.0) (cut-packets cut reply both.1 c (omega arith))
 
 -- Numbers over a place of the gains are bytes over twice that place.
-with-bytes : (s : State) (at at₂ : ℕ) (new : List ℕ) → at₂ ≡ 2 * at → gainBytesWith (lent_of s) at₂ (bytes new) ≡ lent_of (gainsWith s at new)
+with-bytes : (s : State) (at at₂ : ℕ) (new : List ℕ) → at₂ ≡ 2 * at → gain_bytes_with (lent_of s) at₂ (bytes new) ≡ lent_of (gains_with s at new)
 with-bytes s at at₂ new e = rw (e, length-halves 256 new, halves-paste)
 
 blended-bytes : {s t : State} {start colour : ℕ} {new : List ℕ} → Blended s start new colour t → BlendedBytes (lent_of s) start (bytes new) colour (lent_of t)
@@ -141,11 +141,11 @@ blended-bytes {s} {start = start} {new = new} Blended.green =
 blended-bytes {s} {start = start} {new = new} Blended.blue =
     subst (BlendedBytes (lent_of s) start (bytes new) 3) (with-bytes s (4032 + start) (8064 + 2 * start) new (omega arith)) BlendedBytes.blue
 blended-bytes {s} {start = start} {new = new} Blended.all =
-    let one : State = gainsWith s start new in
-    let two : State = gainsWith one (2016 + start) new in
+    let one : State = gains_with s start new in
+    let two : State = gains_with one (2016 + start) new in
     subst (BlendedBytes (lent_of s) start (bytes new) 0)
-    (ap (λ (l : Lent). gainBytesWith (gainBytesWith l (4032 + 2 * start) (bytes new)) (8064 + 2 * start) (bytes new)) (with-bytes s start (2 * start) new refl)
-    ∙ ap (λ (l : Lent). gainBytesWith l (8064 + 2 * start) (bytes new)) (with-bytes one (2016 + start) (4032 + 2 * start) new (omega arith))
+    (ap (λ (l : Lent). gain_bytes_with (gain_bytes_with l (4032 + 2 * start) (bytes new)) (8064 + 2 * start) (bytes new)) (with-bytes s start (2 * start) new refl)
+    ∙ ap (λ (l : Lent). gain_bytes_with l (8064 + 2 * start) (bytes new)) (with-bytes one (2016 + start) (4032 + 2 * start) new (omega arith))
     ∙ with-bytes two (4032 + start) (8064 + 2 * start) new (omega arith))
     BlendedBytes.all
 
@@ -156,12 +156,12 @@ gains-bytes colour start ws f l reply r =
     let own = own-bytes l r.long r.bytes in
     let pairs = f.right.pairs in
     let packets = cut-packets (cut_up colour start ws (pairs-even pairs) f.right.some) reply pairs f.right.colour-right f.within in
-    let all = same-on-bytes (calls_of reply (splitPackets colour start ws)) packets l r.long own in
-    let d = gains-delivered colour start ws f (stateIn l) reply (runs (stateIn l) reply (right-running right)) in
+    let all = same-on-bytes (calls_of reply (split_packets colour start ws)) packets l r.long own in
+    let d = gains-delivered colour start ws f (state_in l) reply (runs (state_in l) reply (right-running right)) in
     record {
       set =
-          subst (λ (k : Lent). BlendedBytes k start (bytes (expand ws)) colour (lentAfterAll (calls_of reply (splitPackets colour start ws)) l)) (sym own)
-          (subst (BlendedBytes (lent_of (stateIn l)) start (bytes (expand ws)) colour) (sym all.bytes_left) (blended-bytes d.set));
+          subst (λ (k : Lent). BlendedBytes k start (bytes (expand ws)) colour (lent_after_all (calls_of reply (split_packets colour start ws)) l)) (sym own)
+          (subst (BlendedBytes (lent_of (state_in l)) start (bytes (expand ws)) colour) (sym all.bytes_left) (blended-bytes d.set));
       taken = stored_bytes d.taken packets l (wide-lent l r.long) own;
     }
 

@@ -6,14 +6,14 @@ use Rattle.settings.specs.Allowed.{SettingsAllowed}
 use Rattle.front_end.specs.State.{State}
 use Rattle.front_end.specs.Step.{step}
 use Rattle.front_end.specs.Writes.{Applies}
-use Rattle.front_end.specs.Calls.{Call, stateAfterAll}
-use Rattle.front_end_bytes.specs.Bytes.{Lent, stateIn, lent_of, lentOut, numbersOut, stepBytes}
+use Rattle.front_end.specs.Calls.{Call, state_after_all}
+use Rattle.front_end_bytes.specs.Bytes.{Lent, state_in, lent_of, lent_out, numbers_out, step_bytes}
 use Rattle.front_end_bytes.specs.Plain.{BytesLent, AllBytes}
 
 -- The bytes that calls leave, one after another.
-unfoldable pub lentAfterAll : List Call → Lent → Lent
-lentAfterAll [] l = l
-lentAfterAll (x ∷ xs) l = lentAfterAll xs (stepBytes x.packet l x.reply).lent
+unfoldable pub lent_after_all : List Call → Lent → Lent
+lent_after_all [] l = l
+lent_after_all (x ∷ xs) l = lent_after_all xs (step_bytes x.packet l x.reply).lent
 
 -- Each packet of the calls is bytes.
 pub data PacketBytes : List Call → Type 0 where
@@ -25,17 +25,17 @@ pub data PacketBytes : List Call → Type 0 where
 pub data SameAnswers : List Call → Lent → State → Type 0 where
   none : {l : Lent} {s : State} → SameAnswers [] l s
   next : {x : Call} {xs : List Call} {l : Lent} {s : State}
-      → numbersOut (stepBytes x.packet l x.reply) ≡ step x.packet s x.reply
-      → SameAnswers xs (stepBytes x.packet l x.reply).lent (step x.packet s x.reply).state
+      → numbers_out (step_bytes x.packet l x.reply) ≡ step x.packet s x.reply
+      → SameAnswers xs (step_bytes x.packet l x.reply).lent (step x.packet s x.reply).state
       → SameAnswers (x ∷ xs) l s
 
 -- Calls on bytes do what they do on the numbers that the bytes hold.
 pub record SameOnBytes (xs : List Call) (l : Lent) : Type 0 where
-  pub long : BytesLent (lentAfterAll xs l)
-  pub answers : SameAnswers xs l (stateIn l)
-  pub numbers : stateIn (lentAfterAll xs l) ≡ stateAfterAll xs (stateIn l)
+  pub long : BytesLent (lent_after_all xs l)
+  pub answers : SameAnswers xs l (state_in l)
+  pub numbers : state_in (lent_after_all xs l) ≡ state_after_all xs (state_in l)
   -- Byte for byte: low byte first, two bytes a number.
-  pub bytes_left : lentAfterAll xs l ≡ lent_of (stateAfterAll xs (stateIn l))
+  pub bytes_left : lent_after_all xs l ≡ lent_of (state_after_all xs (state_in l))
 
 -- Rule 4.1, 1: what refusal 1 asks for, of lent bytes.
 pub record LentRightBytes (l : Lent) (reply : List ℕ) : Type 0 where
@@ -49,15 +49,15 @@ pub record LentRightBytes (l : Lent) (reply : List ℕ) : Type 0 where
 pub data AllStoredBytes : List Call → Lent → Type 0 where
   none : {l : Lent} → AllStoredBytes [] l
   next : {x : Call} {xs : List Call} {l : Lent}
-      → stepBytes x.packet l x.reply ≡ lentOut 0 0 0 (stepBytes x.packet l x.reply).lent x.reply
-      → AllStoredBytes xs (stepBytes x.packet l x.reply).lent → AllStoredBytes (x ∷ xs) l
+      → step_bytes x.packet l x.reply ≡ lent_out 0 0 0 (step_bytes x.packet l x.reply).lent x.reply
+      → AllStoredBytes xs (step_bytes x.packet l x.reply).lent → AllStoredBytes (x ∷ xs) l
 
 -- Rule 5.6: no packet of the calls applies, each judged on the bytes that it gets.
 pub data NoneAppliesBytes : List Call → Lent → Type 0 where
   none : {l : Lent} → NoneAppliesBytes [] l
   next : {x : Call} {xs : List Call} {l : Lent}
-      → (Applies x.packet (numbersOut (stepBytes x.packet l x.reply)) → ⊥)
-      → NoneAppliesBytes xs (stepBytes x.packet l x.reply).lent → NoneAppliesBytes (x ∷ xs) l
+      → (Applies x.packet (numbers_out (step_bytes x.packet l x.reply)) → ⊥)
+      → NoneAppliesBytes xs (step_bytes x.packet l x.reply).lent → NoneAppliesBytes (x ∷ xs) l
 
 -- Rule 5.6: the live side, byte for byte: the points, and shape, mode and lists in the block.
 pub record LiveBytesKept (l k : Lent) : Type 0 where

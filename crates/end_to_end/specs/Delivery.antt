@@ -3,9 +3,9 @@ use Rattle.std.specs.Prelude.{ℕ, ◌*◌, ◌<◌, ◌≡◌, List, [], ◌∷
 use Rattle.row_mark.specs.Bits.{bit_at}
 use Rattle.front_end.specs.State.{State}
 use Rattle.front_end.specs.Step.{out, step}
-use Rattle.front_end.specs.Rows.{mark_of, columnsOf, RowRight, MarkRight, TouchedBy}
-use Rattle.front_end.specs.Calls.{Call, calls_of, stateAfterAll}
-use Rattle.upload.specs.Plan.{packetsOf}
+use Rattle.front_end.specs.Rows.{mark_of, columns_of, RowRight, MarkRight, TouchedBy}
+use Rattle.front_end.specs.Calls.{Call, calls_of, state_after_all}
+use Rattle.upload.specs.Plan.{packets_of}
 
 -- Each of the calls is accepted and changes the state alone: status 0, no reply, and the reply buffer as it was.
 pub data AllStored : List Call → State → Type 0 where
@@ -20,7 +20,7 @@ pub data TouchedByOne (columns r : ℕ) : List (List ℕ) → Type 0 where
 
 -- The state that the plan's packets leave.
 abbrev pub uploaded : List ℕ → List ℕ → State → List ℕ → State
-uploaded held wanted s reply = stateAfterAll (calls_of reply (packetsOf held wanted)) s
+uploaded held wanted s reply = state_after_all (calls_of reply (packets_of held wanted)) s
 
 -- Rules 6.3 and 7.3: the plan's packets sent to a front end whose staged map of n points is held.
 pub record Delivered (n : ℕ) (held wanted : List ℕ) (s : State) (reply : List ℕ) : Type 0 where
@@ -34,9 +34,9 @@ pub record Delivered (n : ℕ) (held wanted : List ℕ) (s : State) (reply : Lis
   pub live-kept : (uploaded held wanted s reply).live ≡ s.live
   pub gains-kept : (uploaded held wanted s reply).gains ≡ s.gains
   -- Rules 11.2 and 11.3: the bits of the rows that the packets write to are right, the others as they were; so a mark that was right is right.
-  pub rows_right : (r : ℕ) → TouchedByOne (columnsOf s.block) r (packetsOf held wanted) → RowRight (uploaded held wanted s reply) r
-  pub rows-kept : (r : ℕ) → r < 32 → (TouchedByOne (columnsOf s.block) r (packetsOf held wanted) → ⊥)
+  pub rows_right : (r : ℕ) → TouchedByOne (columns_of s.block) r (packets_of held wanted) → RowRight (uploaded held wanted s reply) r
+  pub rows-kept : (r : ℕ) → r < 32 → (TouchedByOne (columns_of s.block) r (packets_of held wanted) → ⊥)
       → bit_at (mark_of (uploaded held wanted s reply).block) r ≡ bit_at (mark_of s.block) r
   pub mark-right : MarkRight s → MarkRight (uploaded held wanted s reply)
   -- Rule 7.3: every one of them is accepted.
-  pub taken : AllStored (calls_of reply (packetsOf held wanted)) s
+  pub taken : AllStored (calls_of reply (packets_of held wanted)) s

@@ -8,14 +8,14 @@ use borrow.Author.Tests.{eq-eqb, ne_eqb}
 use lib.ListN.{length, get_or}
 use lib.Dec.{eqb}
 use Rattle.wire.specs.Buffers.{over}
-use Rattle.opcode.specs.Options.{hasChecksum, optionsIn, isRead}
-use Rattle.reply.specs.Reply.{replyBytes}
-use Rattle.packet.specs.Frame.{headerOf, opcode_of, data_of}
-use Rattle.settings.specs.Layout.{blockSize}
+use Rattle.opcode.specs.Options.{has_checksum, options_in, is_read}
+use Rattle.reply.specs.Reply.{reply_bytes}
+use Rattle.packet.specs.Frame.{header_of, opcode_of, data_of}
+use Rattle.settings.specs.Layout.{block_size}
 use Rattle.front_end.specs.State.{State, state}
 use Rattle.front_end.specs.Commands.{written}
-use Rattle.front_end.specs.Mark.{markedBlock}
-use Rattle.front_end.specs.Step.{statusReply, out, step}
+use Rattle.front_end.specs.Mark.{marked_block}
+use Rattle.front_end.specs.Step.{status_reply, out, step}
 use Rattle.front_end.proofs.Demands.{Demand2}
 use Rattle.front_end.proofs.Effects.{leaves, returns, some_left, some-returned, written-data, read-data}
 use Rattle.front_end.proofs.Steps.{step-read, step-written}
@@ -24,19 +24,19 @@ use Rattle.front_end.proofs.Changes.{passed, changed, changed-long}
 use Rattle.front_end.proofs.Marks.{AllButMark, mark-alone, mark-put}
 
 -- A state with another block.
-abbrev withBlock : State → List ℕ → State
-withBlock s block = state block s.staged s.live s.gains
+abbrev with_block : State → List ℕ → State
+with_block s block = state block s.staged s.live s.gains
 
 -- The block that an accepted write's command leaves, and the mark written into it.
-module _ (p : List ℕ) (s : State) (reply : List ℕ) (none : (step p s reply).status ≡ 0) (write : isRead (headerOf p) ≡ 0) where
-  pub written-long : length (written (opcode_of p) (data_of p) s).block ≡ blockSize
+module _ (p : List ℕ) (s : State) (reply : List ℕ) (none : (step p s reply).status ≡ 0) (write : is_read (header_of p) ≡ 0) where
+  pub written-long : length (written (opcode_of p) (data_of p) s).block ≡ block_size
   unfolding step written
   written-long =
       let c = passed p s reply none in
-      changed-long (changed (opcode_of p) (optionsIn (headerOf p)) (data_of p) (omega arith) c.command.judged) s.block c.lent.tables.block
+      changed-long (changed (opcode_of p) (options_in (header_of p)) (data_of p) (omega arith) c.command.judged) s.block c.lent.tables.block
 
   pub alone : AllButMark (written (opcode_of p) (data_of p) s).block
-      (markedBlock (opcode_of p) (data_of p) (written (opcode_of p) (data_of p) s).block (written (opcode_of p) (data_of p) s).staged (written (opcode_of p) (data_of p) s).live)
+      (marked_block (opcode_of p) (data_of p) (written (opcode_of p) (data_of p) s).block (written (opcode_of p) (data_of p) s).staged (written (opcode_of p) (data_of p) s).live)
   alone = mark-alone (opcode_of p) (data_of p) _ _ _ written-long
 
 -- Demand 2: accepted exactly if the rules allow it, and then state and reply are those of the command.
@@ -46,20 +46,20 @@ demand2 p bytes s reply =
       exactly = accepted-exactly p bytes s reply;
       writes = λ a w.
           let d = decided p s reply ((accepted-exactly p bytes s reply).1 a) in
-          step-written p s reply d.0 d.1 (ne_eqb (isRead (headerOf p)) 1 (omega arith));
+          step-written p s reply d.0 d.1 (ne_eqb (is_read (header_of p)) 1 (omega arith));
       reads = λ a r.
           let d = decided p s reply ((accepted-exactly p bytes s reply).1 a) in
-          step-read p s reply d.0 d.1 (eq-eqb (isRead (headerOf p)) 1 r);
+          step-read p s reply d.0 d.1 (eq-eqb (is_read (header_of p)) 1 r);
       leaves = λ a w.
           let d = decided p s reply ((accepted-exactly p bytes s reply).1 a) in
           let some = some_left s (written-data a.taken.allowed (omega arith)) in
-          let made = step-written p s reply d.0 d.1 (ne_eqb (isRead (headerOf p)) 1 (omega arith)) in
+          let made = step-written p s reply d.0 d.1 (ne_eqb (is_read (header_of p)) 1 (omega arith)) in
           record {
             after = some.after;
             by = some.by;
             answer =
                 rw (made, ← leaves some.by)
-                (ap (λ (block : List ℕ). out 0 0 (length (statusReply 0 0 p)) (withBlock (written (opcode_of p) (data_of p) s) block) (over (statusReply 0 0 p) reply))
+                (ap (λ (block : List ℕ). out 0 0 (length (status_reply 0 0 p)) (with_block (written (opcode_of p) (data_of p) s) block) (over (status_reply 0 0 p) reply))
                 (mark-put (alone p s reply ((accepted-exactly p bytes s reply).1 a) (omega arith)) (written-long p s reply ((accepted-exactly p bytes s reply).1 a) (omega arith))));
           };
       returns = λ a r.
@@ -69,7 +69,7 @@ demand2 p bytes s reply =
             back = some.back;
             by = some.by;
             answer =
-                step-read p s reply d.0 d.1 (eq-eqb (isRead (headerOf p)) 1 r)
-                ∙ ap (λ (back : List ℕ). out 0 0 (length (replyBytes (eqb (hasChecksum (headerOf p)) 1) 0 back)) s (over (replyBytes (eqb (hasChecksum (headerOf p)) 1) 0 back) reply)) (returns some.by);
+                step-read p s reply d.0 d.1 (eq-eqb (is_read (header_of p)) 1 r)
+                ∙ ap (λ (back : List ℕ). out 0 0 (length (reply_bytes (eqb (has_checksum (header_of p)) 1) 0 back)) s (over (reply_bytes (eqb (has_checksum (header_of p)) 1) 0 back) reply)) (returns some.by);
           };
     }

@@ -13,25 +13,25 @@ use lib.ListN.{length, take, drop, get_or, length-take, length-drop, length-repl
 use lib.Seq.{paste, length-paste, ext_get_or, get_or-take, get_or-drop}
 use Rattle.wire.specs.Numbers.{byte_at}
 use Rattle.wire.specs.Plain.{Bytes}
-use Rattle.wire.specs.Tables.{longBytes}
+use Rattle.wire.specs.Tables.{long_bytes}
 use Rattle.wire.proofs.Copies.{paste-there}
 use Rattle.wire.proofs.Plain.{least-one}
-use Rattle.opcode.specs.Options.{isRead, optionsIn}
+use Rattle.opcode.specs.Options.{is_read, options_in}
 use Rattle.opcode.specs.Allowed.{two}
-use Rattle.packet.specs.Frame.{headerOf, opcode_of, data_of}
+use Rattle.packet.specs.Frame.{header_of, opcode_of, data_of}
 use Rattle.packet.proofs.Determined.{same-fault}
 use Rattle.row_mark.specs.Bits.{of_bits, bit_at}
 use Rattle.row_mark.specs.Right.{Moved}
 use Rattle.row_mark.proofs.Bits.{length-bits}
 use Rattle.row_mark.proofs.Rows.{length-refreshed, length-each}
 use Rattle.row_mark.proofs.Plain.{same_bits, of-bits-small}
-use Rattle.front_end.specs.State.{State, state, lengthsRight, ResetOut, reset, resetState}
+use Rattle.front_end.specs.State.{State, state, lengths_right, ResetOut, reset, reset_state}
 use Rattle.front_end.specs.Commands.{written}
 use Rattle.front_end.specs.Step.{answers, Out, step}
-use Rattle.front_end.specs.Mark.{markAfter, marks, withMark, markedBlock}
-use Rattle.settings.specs.Layout.{markPlace, markSize}
-use Rattle.front_end.specs.Effects.{blockWith}
-use Rattle.front_end.specs.Rows.{mark_of, MarkBytes, columnsOf, rows_of, RowRight, TouchedBy, RowsPlain}
+use Rattle.front_end.specs.Mark.{mark_after, marks, with_mark, marked_block}
+use Rattle.settings.specs.Layout.{mark_place, mark_size}
+use Rattle.front_end.specs.Effects.{block_with}
+use Rattle.front_end.specs.Rows.{mark_of, MarkBytes, columns_of, rows_of, RowRight, TouchedBy, RowsPlain}
 use Rattle.front_end.specs.Plain.{StateLent, Asks, ReplyData, ReplyWritten, StepPlain, ResetPlain, Pinned}
 use Rattle.front_end.proofs.Effects.{leaves, returns}
 use Rattle.front_end.proofs.Demands.{state-lent, resets}
@@ -131,13 +131,13 @@ moved_as {c} {c'} {n} {n'} {staged} {staged'} {live} {live'} {r} e f g h m =
 
 record ButMark (w t : State) : Type 0 where
   long : length t.block ≡ 1024
-  columns : columnsOf t.block ≡ columnsOf w.block
+  columns : columns_of t.block ≡ columns_of w.block
   rows : rows_of t.block ≡ rows_of w.block
   staged : t.staged ≡ w.staged
   live : t.live ≡ w.live
-  whole : t ≡ blockWith w 865 (take 4 (drop 865 t.block))
+  whole : t ≡ block_with w 865 (take 4 (drop 865 t.block))
 
-but-mark : (w t : State) → length w.block ≡ 1024 → t ≡ blockWith w 865 (take 4 (drop 865 t.block)) → ButMark w t
+but-mark : (w t : State) → length w.block ≡ 1024 → t ≡ block_with w 865 (take 4 (drop 865 t.block)) → ButMark w t
 but-mark w t l e =
     let new = take 4 (drop 865 t.block) in
     let few : length new ≤ 4 = simp length-take (omega arith) in
@@ -157,7 +157,7 @@ but-mark w t l e =
 
 -- Its rows are right, or not, by what the other one has.
 right-as : {w t : State} → ButMark w t → (r : ℕ) → RowRight t r
-    → (bit_at (mark_of t.block) r ≡ 1) ↔ Moved (columnsOf w.block) (rows_of w.block) w.staged w.live r
+    → (bit_at (mark_of t.block) r ≡ 1) ↔ Moved (columns_of w.block) (rows_of w.block) w.staged w.live r
 right-as b r h = (
   λ one. moved_as b.columns b.rows b.staged b.live (h.0 one),
   λ m. h.1 (moved_as (sym b.columns) (sym b.rows) (sym b.staged) (sym b.live) m),
@@ -173,7 +173,7 @@ both_right b c r h k =
 -- ---- One packet: an accepted write.
 
 module _ (p : List ℕ) (s : State) (reply : List ℕ) {o q : Out} (small : MarkBytes o.state.block) (few : MarkBytes q.state.block)
-    (f : StepPlain p s reply o) (g : StepPlain p s reply q) (zo : o.status ≡ 0) (zq : q.status ≡ 0) (write : isRead (headerOf p) ≡ 0)
+    (f : StepPlain p s reply o) (g : StepPlain p s reply q) (zo : o.status ≡ 0) (zq : q.status ≡ 0) (write : is_read (header_of p) ≡ 0)
     {w : State} (b : ButMark w o.state) (c : ButMark w q.state) where
   four-long : {t : State} → ButMark w t → length (take 4 (drop 865 t.block)) ≡ 4
   four-long k = simp (length-take, length-drop) (omega (arith, k.long))
@@ -193,7 +193,7 @@ module _ (p : List ℕ) (s : State) (reply : List ℕ) {o q : Out} (small : Mark
             (λ r h.
             stable _ _
             (λ differ.
-            let off : TouchedBy (columnsOf s.block) p r → ⊥ =
+            let off : TouchedBy (columns_of s.block) p r → ⊥ =
             λ t. differ (both_right b c r (f.rows.touched (zo, e, write) r t) (g.rows.touched (zq, e, write) r t)) in
             differ (f.rows.untouched (zo, e, write) r h off ∙ sym (g.rows.untouched (zq, e, write) r h off))))
         | no not-34 ↦
@@ -222,28 +222,28 @@ module _ (p : List ℕ) (s : State) (reply : List ℕ) {o q : Out} (small : Mark
 
 module _ (p : List ℕ) (bytes : Bytes p) (s : State) (reply : List ℕ) where
   -- What a write leaves, but for the mark, by the definition.
-  left_as : {o : Out} → StepPlain p s reply o → o.status ≡ 0 → isRead (headerOf p) ≡ 0 → ButMark (written (opcode_of p) (data_of p) s) o.state
+  left_as : {o : Out} → StepPlain p s reply o → o.status ≡ 0 → is_read (header_of p) ≡ 0 → ButMark (written (opcode_of p) (data_of p) s) o.state
   left_as {o} f z w =
       let left = f.written z w in
       let number : (step p s reply).status ≡ 0 =
       least-one (step p s reply).status o.status (handled p bytes s reply refl).plain.number f.number ∙ z in
       but-mark (written (opcode_of p) (data_of p) s) o.state (written-long p s reply number w)
-      (left.all-but-mark ∙ ap (λ (t : State). blockWith t 865 (take 4 (drop 865 o.state.block))) (sym (leaves left.by)))
+      (left.all-but-mark ∙ ap (λ (t : State). block_with t 865 (take 4 (drop 865 o.state.block))) (sym (leaves left.by)))
 
   same-state : {o q : Out} → MarkBytes o.state.block → MarkBytes q.state.block → StepPlain p s reply o → StepPlain p s reply q
       → o.status ≡ q.status → o.state ≡ q.state
   same-state {o} {q} small few f g same =
       elim (ℕ_discrete o.status 0) [
         | yes z ↦
-            elim (ℕ_discrete (isRead (headerOf p)) 1) [
+            elim (ℕ_discrete (is_read (header_of p)) 1) [
               | yes r ↦ f.unchanged (λ e. r) ∙ sym (g.unchanged (λ e. r))
               | no other ↦
-                  let w : isRead (headerOf p) ≡ 0 = omega arith in
+                  let w : is_read (header_of p) ≡ 0 = omega arith in
                   let zq : q.status ≡ 0 = sym same ∙ z in
                   let b = left_as f z w in
                   let c = left_as g zq w in
                   b.whole
-                  ∙ ap (blockWith (written (opcode_of p) (data_of p) s) 865) (same-mark p s reply small few f g z zq w b c)
+                  ∙ ap (block_with (written (opcode_of p) (data_of p) s) 865) (same-mark p s reply small few f g z zq w b c)
                   ∙ sym c.whole
             ]
         | no some ↦ f.unchanged (λ z. absurd (some z)) ∙ sym (g.unchanged (λ z. absurd (some (same ∙ z))))
@@ -282,18 +282,18 @@ step-determined p bytes s reply o q small few f g =
 -- ---- The mark's bytes stay bytes.
 
 -- The four bytes of a number below 2 ^ 32.
-number-bytes : (n : ℕ) → n < 2 ^ 32 → (k : ℕ) → k < 4 → get_or (longBytes (n ∷ [])) k 0 < 256
+number-bytes : (n : ℕ) → n < 2 ^ 32 → (k : ℕ) → k < 4 → get_or (long_bytes (n ∷ [])) k 0 < 256
 number-bytes n h =
-    each-of-4 (λ (k : ℕ). get_or (longBytes (n ∷ [])) k 0 < 256) (omega arith) (omega arith) (omega arith) (omega arith)
+    each-of-4 (λ (k : ℕ). get_or (long_bytes (n ∷ [])) k 0 < 256) (omega arith) (omega arith) (omega arith) (omega arith)
 
-marked-bytes : (mark : List Bool) (block : List ℕ) → length mark ≡ 32 → length block ≡ 1024 → MarkBytes (withMark mark block)
+marked-bytes : (mark : List Bool) (block : List ℕ) → length mark ≡ 32 → length block ≡ 1024 → MarkBytes (with_mark mark block)
 marked-bytes mark block l b k h =
-    let there = paste-there block (longBytes (of_bits mark ∷ [])) markPlace markSize (omega arith) (omega arith) in
+    let there = paste-there block (long_bytes (of_bits mark ∷ [])) mark_place mark_size (omega arith) (omega arith) in
     rw (there.each k h) (number-bytes (of_bits mark) (subst (λ (n : ℕ). of_bits mark < 2 ^ n) l (of-bits-small mark)) (0 + k) (omega arith))
 
 mark-long : (op : ℕ) (d : List ℕ) (columns rows : ℕ) (staged live : List ℕ) (m : List Bool) → length m ≡ 32
-    → length (markAfter op d columns rows staged live m) ≡ 32
-unfolding markAfter
+    → length (mark_after op d columns rows staged live m) ≡ 32
+unfolding mark_after
 mark-long op d columns rows staged live m l =
     elim (ℕ_discrete op 0x34) [
       | yes e ↦ rw (eq-eqb op 0x34 e) (length-refreshed _ _ _ m ∙ l)
@@ -307,21 +307,21 @@ mark-long op d columns rows staged live m l =
 
 -- Of any packet.
 pub mark-bytes : (p : List ℕ) (s : State) (reply : List ℕ) → MarkBytes s.block → MarkBytes (step p s reply).state.block
-unfolding written markedBlock
+unfolding written marked_block
 mark-bytes p s reply small = go (way p s reply)
   where
     after : State
     after = written (opcode_of p) (data_of p) s
 
     pass : (b : Bool) → marks (opcode_of p) (data_of p) ≡ b → length after.block ≡ 1024 → MarkBytes after.block
-        → MarkBytes (markedBlock (opcode_of p) (data_of p) after.block after.staged after.live)
+        → MarkBytes (marked_block (opcode_of p) (data_of p) after.block after.staged after.live)
     pass true e l h = rw e (marked-bytes _ after.block (mark-long (opcode_of p) (data_of p) _ _ _ _ _ (length-bits 32 _)) l)
     pass false e l h = rw e h
 
     go : Way p s reply → MarkBytes (step p s reply).state.block
     go (Way.same e) = subst (λ (t : State). MarkBytes t.block) (sym e) small
     go (Way.wrote st r a e) =
-        let by = changed (opcode_of p) (optionsIn (headerOf p)) (data_of p) (omega arith) a.command.judged in
+        let by = changed (opcode_of p) (options_in (header_of p)) (data_of p) (omega arith) a.command.judged in
         let long = a.lent.tables.block in
         let tail = tail-changed by s.block long in
         let same : (k : ℕ) → get_or after.block (865 + k) 0 ≡ get_or s.block (865 + k) 0 =
@@ -332,9 +332,9 @@ mark-bytes p s reply small = go (way p s reply)
 -- ---- Reset.
 
 lent-or : (s : State) {P : Type 0} → (StateLent s → P) → ((StateLent s → ⊥) → P) → P
-lent-or s {P} right wrong = go (lengthsRight s) refl
+lent-or s {P} right wrong = go (lengths_right s) refl
   where
-    go : (b : Bool) → lengthsRight s ≡ b → P
+    go : (b : Bool) → lengths_right s ≡ b → P
     go true e = right ((state-lent s).0 e)
     go false e = wrong (λ l. true≢false (sym ((state-lent s).1 l) ∙ e))
 
@@ -392,5 +392,5 @@ pinned =
       reset-answer = λ status s. refl;
       one-packet = λ p bytes s reply. (handled p bytes s reply refl).plain;
       mark-stays-bytes = mark-bytes;
-      at-reset = λ s l. (resets s {o = record { status = 0; state = resetState }} (rw ((state-lent s).1 l))).plain;
+      at-reset = λ s l. (resets s {o = record { status = 0; state = reset_state }} (rw ((state-lent s).1 l))).plain;
     }

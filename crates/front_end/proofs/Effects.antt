@@ -5,20 +5,20 @@ use mathlib.Core.Path.{◌≡◌, refl}
 use mathlib.Core.List.{List, [], ◌∷◌}
 use native.Mathlib.Omega.{arith}
 use Rattle.wire.specs.Numbers.{byte_at, word_at}
-use Rattle.opcode.specs.Options.{isRead}
-use Rattle.opcode.specs.Commands.{commandOf}
+use Rattle.opcode.specs.Options.{is_read}
+use Rattle.opcode.specs.Commands.{command_of}
 use Rattle.opcode.specs.Allowed.{SendsNothing, ReadData, WriteData, Allowed}
 use Rattle.settings.specs.Allowed.{ShapeCounts, SettingsAllowed}
-use Rattle.settings.specs.Layout.{lockPlace, updatePlace}
-use Rattle.settings.specs.Layout.{placeOf}
+use Rattle.settings.specs.Layout.{lock_place, update_place}
+use Rattle.settings.specs.Layout.{place_of}
 use Rattle.settings.proofs.Fits.{own-slot}
 use Rattle.front_end.specs.State.{State}
-use Rattle.front_end.specs.Commands.{colourInto, readGains, readPoints, shapeBytes, writeShape, readShape, applyBlock, applyLive}
-use Rattle.front_end.specs.Commands.{writeSmooth, readSmooth, blockAfter, written, blockBack, dataBack}
+use Rattle.front_end.specs.Commands.{colour_into, read_gains, read_points, shape_bytes, write_shape, read_shape, apply_block, apply_live}
+use Rattle.front_end.specs.Commands.{write_smooth, read_smooth, block_after, written, block_back, data_back}
 use Rattle.front_end.specs.Effects.{StandFor, Leaves, Returns}
 
 pub leaves : {s : State} {op : ℕ} {d : List ℕ} {t : State} → Leaves s op d t → written op d s ≡ t
-unfolding written blockAfter writeShape shapeBytes applyBlock applyLive writeSmooth colourInto commandOf placeOf
+unfolding written block_after write_shape shape_bytes apply_block apply_live write_smooth colour_into command_of place_of
 leaves {d = d} Leaves.display = let here : 0 + 0 * byte_at d 0 ≡ 0 = omega arith in rw here
 leaves {d = d} Leaves.latency = let here : 1 + 0 * byte_at d 0 ≡ 1 = omega arith in rw here
 leaves {d = d} Leaves.look = let here : 2 + 0 * byte_at d 0 ≡ 2 = omega arith in rw here
@@ -26,8 +26,8 @@ leaves {d = d} Leaves.curtain = let here : 4 + 0 * byte_at d 0 ≡ 4 = omega ari
 leaves {d = d} Leaves.splash = let here : 5 + 0 * byte_at d 0 ≡ 5 = omega arith in rw here
 leaves {d = d} Leaves.flip = let here : 6 + 0 * byte_at d 0 ≡ 6 = omega arith in rw here
 leaves {d = d} Leaves.freeze = let here : 7 + 0 * byte_at d 0 ≡ 7 = omega arith in rw here
-leaves {d = d} Leaves.update = let here : updatePlace + 0 * byte_at d 0 ≡ updatePlace = omega arith in rw here
-leaves {d = d} Leaves.lock = let here : lockPlace + 0 * byte_at d 0 ≡ lockPlace = omega arith in rw here
+leaves {d = d} Leaves.update = let here : update_place + 0 * byte_at d 0 ≡ update_place = omega arith in rw here
+leaves {d = d} Leaves.lock = let here : lock_place + 0 * byte_at d 0 ≡ lock_place = omega arith in rw here
 leaves Leaves.pin = refl
 leaves Leaves.level = refl
 leaves {d = d} (Leaves.pwm h) = rw (own-slot d h)
@@ -48,8 +48,8 @@ leaves (Leaves.blue StandFor.pairs) = refl
 leaves (Leaves.all StandFor.plain) = refl
 leaves (Leaves.all StandFor.pairs) = refl
 
-pub returns : {s : State} {op : ℕ} {d back : List ℕ} → Returns s op d back → dataBack op d s ≡ back
-unfolding dataBack blockBack readShape readSmooth readGains readPoints commandOf placeOf
+pub returns : {s : State} {op : ℕ} {d back : List ℕ} → Returns s op d back → data_back op d s ≡ back
+unfolding data_back block_back read_shape read_smooth read_gains read_points command_of place_of
 returns Returns.display = refl
 returns Returns.latency = refl
 returns Returns.look = refl
@@ -151,10 +151,10 @@ some-returned s a (ReadData.gains {colour = suc (suc (suc zero))} h i j k) = rec
 some-returned s a (ReadData.gains {colour = suc (suc (suc (suc c)))} h i j k) = absurd (omega arith)
 
 -- What options allow is a write's data or a read's.
-pub written-data : {op o : ℕ} {d : List ℕ} → Allowed op o d → isRead o ≡ 0 → WriteData op d
+pub written-data : {op o : ℕ} {d : List ℕ} → Allowed op o d → is_read o ≡ 0 → WriteData op d
 written-data (Allowed.asks h r) e = absurd (omega arith)
 written-data (Allowed.sets h w l) e = w
 
-pub read-data : {op o : ℕ} {d : List ℕ} → Allowed op o d → isRead o ≡ 1 → ReadData op d
+pub read-data : {op o : ℕ} {d : List ℕ} → Allowed op o d → is_read o ≡ 1 → ReadData op d
 read-data (Allowed.asks h r) e = r
 read-data (Allowed.sets h w l) e = absurd (omega arith)

@@ -10,41 +10,41 @@ use borrow.Author.Tests.{ne_eqb, lt-ltb, le-ltb, ltb-false}
 use lib.ListN.{length, get_or}
 use lib.Seq.{sets, paste}
 use lib.Dec.{eqb}
-use Rattle.wire.specs.Numbers.{byte_at, word_bytes, longAt}
-use Rattle.wire.specs.Tables.{longBytes}
+use Rattle.wire.specs.Numbers.{byte_at, word_bytes, long_at}
+use Rattle.wire.specs.Tables.{long_bytes}
 use Rattle.wire.proofs.Laws.{sets-append}
 use Rattle.wire.proofs.Copies.{sets-paste}
-use Rattle.row_mark.specs.Bits.{bits_of, of_bits, count_true, firstTrue}
-use Rattle.row_mark.specs.Rows.{rowDiffers, rowMoved, rightMark, refreshed}
+use Rattle.row_mark.specs.Bits.{bits_of, of_bits, count_true, first_true}
+use Rattle.row_mark.specs.Rows.{row_differs, row_moved, right_mark, refreshed}
 use Rattle.row_mark.proofs.Bits.{length-bits, bit-at, number-back, count_ones, first-set, count-few, first-few}
 use Rattle.row_mark.proofs.Rows.{length-refreshed, refreshed-in, refreshed-behind, refreshed-same, each_right}
 use Rattle.row_mark.proofs.Right.{rows-counted}
-use Rattle.settings.specs.Layout.{blockSize, stagedShape, columnsAt, rows_at, markPlace, markSize}
-use Rattle.settings.specs.Ranges.{settingsRight}
-use Rattle.opcode.specs.Options.{isRead}
+use Rattle.settings.specs.Layout.{block_size, staged_shape, columns_at, rows_at, mark_place, mark_size}
+use Rattle.settings.specs.Ranges.{settings_right}
+use Rattle.opcode.specs.Options.{is_read}
 use Rattle.opcode.specs.Allowed.{WriteData}
 use Rattle.packet.specs.Points.{start_of, count_of}
 use Rattle.front_end.specs.declared.mark.Fresh.{Fresh}
-use Rattle.front_end.specs.Mark.{markAt, markBits, firstTouched, lastTouched, markAfter, marks, markedBlock, RowsOut, rowsOut, rowsTold}
+use Rattle.front_end.specs.Mark.{mark_at, mark_bits, first_touched, last_touched, mark_after, marks, marked_block, RowsOut, rows_out, rows_told}
 use Rattle.front_end.specs.Demands.{RowsPromised}
-use Rattle.front_end.specs.Internal.{Granted, MarkGranted, RowsNamed, fresh_of, rowsWorkedOut, RowsFresh}
-use Rattle.front_end.specs.Commands.{blockAfter, runsPast}
+use Rattle.front_end.specs.Internal.{Granted, MarkGranted, RowsNamed, fresh_of, rows_worked_out, RowsFresh}
+use Rattle.front_end.specs.Commands.{block_after, runs_past}
 use Rattle.front_end.proofs.Bounds.{counts, write-data}
 use Rattle.front_end.proofs.InRange.{settings-stay}
 
 -- ---- 34h.
 
 -- A row below the last of the shape counts if it differs.
-within-shape : (columns rows : ℕ) (staged live : List ℕ) (r : ℕ) → r < rows → rowMoved columns rows staged live r ≡ rowDiffers columns staged live r
+within-shape : (columns rows : ℕ) (staged live : List ℕ) (r : ℕ) → r < rows → row_moved columns rows staged live r ≡ row_differs columns staged live r
 within-shape columns rows staged live r h = rw (lt-ltb r rows h)
 
-pub last_row : {d block : List ℕ} → MarkGranted 0x34 d block → lastTouched (columnsAt block stagedShape) d < rows_at block stagedShape
+pub last_row : {d block : List ℕ} → MarkGranted 0x34 d block → last_touched (columns_at block staged_shape) d < rows_at block staged_shape
 last_row {d} {block} g =
     let c = counts block g.settings in
     let p = g.placed refl in
-    let turned : columnsAt block stagedShape * rows_at block stagedShape ≡ rows_at block stagedShape * columnsAt block stagedShape = omega arith in
-    let below : start_of d + count_of d - 1 < rows_at block stagedShape * columnsAt block stagedShape = omega (arith, p.0, p.1) in
-    (div-lt_iff_lt-mul {k = columnsAt block stagedShape} (omega (arith, c.columns-some))).1 below
+    let turned : columns_at block staged_shape * rows_at block staged_shape ≡ rows_at block staged_shape * columns_at block staged_shape = omega arith in
+    let below : start_of d + count_of d - 1 < rows_at block staged_shape * columns_at block staged_shape = omega (arith, p.0, p.1) in
+    (div-lt_iff_lt-mul {k = columns_at block staged_shape} (omega (arith, c.columns-some))).1 below
 
 -- A result by its parts.
 fresh-by : (r : Fresh) {changes : Bool} {mark first end columns : ℕ} → r.changes ≡ changes → r.mark ≡ mark → r.first ≡ first → r.end ≡ end
@@ -55,11 +55,11 @@ fresh-by r a b c d e = joined a b c d e
     joined a b c d e = cc
 
 pub touched-fresh : {d block : List ℕ} {r : Fresh} → MarkGranted 0x34 d block → RowsNamed d block r → RowsFresh 0x34 d block r
-unfolding markAfter rowsWorkedOut
+unfolding mark_after rows_worked_out
 touched-fresh {d} {block} {r} g n =
     let c = counts block g.settings in
-    let columns : ℕ = columnsAt block stagedShape in
-    let rows : ℕ = rows_at block stagedShape in
+    let columns : ℕ = columns_at block staged_shape in
+    let rows : ℕ = rows_at block staged_shape in
     let last = last_row g in
     record {
       outcome = fresh-by r n.changes n.mark n.first n.end n.columns;
@@ -68,7 +68,7 @@ touched-fresh {d} {block} {r} g n =
       room = rw (n.columns, n.end) (omega (arith, mul-le-mul_left columns last, c.points));
       whole = λ z staged live.
           rw (n.columns, n.first, n.end, n.mark)
-          (refreshed-same (rowMoved columns rows staged live) (rowDiffers columns staged live) (firstTouched columns d) (lastTouched columns d + 1 - firstTouched columns d) (markBits block)
+          (refreshed-same (row_moved columns rows staged live) (row_differs columns staged live) (first_touched columns d) (last_touched columns d + 1 - first_touched columns d) (mark_bits block)
           (λ k from to. within-shape columns rows staged live k (omega (arith, last))));
     }
 
@@ -78,41 +78,41 @@ touched-fresh {d} {block} {r} g n =
 zero_bit : (k : ℕ) → k < 32 → get_or (bits_of 32 0) k false ≡ false
 zero_bit k h = bit-at 32 0 k h ∙ rw zero-div
 
-all-fresh : (columns rows : ℕ) (staged live : List ℕ) → rows ≤ 32 → rightMark columns rows staged live ≡ refreshed (rowDiffers columns staged live) 0 rows (bits_of 32 0)
+all-fresh : (columns rows : ℕ) (staged live : List ℕ) → rows ≤ 32 → right_mark columns rows staged live ≡ refreshed (row_differs columns staged live) 0 rows (bits_of 32 0)
 all-fresh columns rows staged live few =
-    sym (each_right (rowMoved columns rows staged live) 32 (refreshed (rowDiffers columns staged live) 0 rows (bits_of 32 0))
-    (length-refreshed (rowDiffers columns staged live) 0 rows (bits_of 32 0) ∙ length-bits 32 0) at)
+    sym (each_right (row_moved columns rows staged live) 32 (refreshed (row_differs columns staged live) 0 rows (bits_of 32 0))
+    (length-refreshed (row_differs columns staged live) 0 rows (bits_of 32 0) ∙ length-bits 32 0) at)
   where
-    at : (k : ℕ) → k < 32 → get_or (refreshed (rowDiffers columns staged live) 0 rows (bits_of 32 0)) k false ≡ rowMoved columns rows staged live k
+    at : (k : ℕ) → k < 32 → get_or (refreshed (row_differs columns staged live) 0 rows (bits_of 32 0)) k false ≡ row_moved columns rows staged live k
     at k h =
         elim (dec_lt k rows) [
           | yes l ↦
-              refreshed-in (rowDiffers columns staged live) 0 rows (bits_of 32 0) k (omega arith) (omega arith) (rw length-bits h)
+              refreshed-in (row_differs columns staged live) 0 rows (bits_of 32 0) k (omega arith) (omega arith) (rw length-bits h)
               ∙ sym (within-shape columns rows staged live k l)
-          | no l ↦ refreshed-behind (rowDiffers columns staged live) 0 rows (bits_of 32 0) k (omega arith) ∙ zero_bit k h ∙ rw (le-ltb k rows (omega arith))
+          | no l ↦ refreshed-behind (row_differs columns staged live) 0 rows (bits_of 32 0) k (omega arith) ∙ zero_bit k h ∙ rw (le-ltb k rows (omega arith))
         ]
 
-pub shape-fresh : {d block : List ℕ} (r : Fresh) → settingsRight block ≡ true
-    → (r.changes ≡ true) × (r.mark ≡ 0) × (r.first ≡ 0) × (r.end ≡ rows_at block stagedShape) × (r.columns ≡ columnsAt block stagedShape)
+pub shape-fresh : {d block : List ℕ} (r : Fresh) → settings_right block ≡ true
+    → (r.changes ≡ true) × (r.mark ≡ 0) × (r.first ≡ 0) × (r.end ≡ rows_at block staged_shape) × (r.columns ≡ columns_at block staged_shape)
     → RowsFresh 0x35 d block r
-unfolding markAfter rowsWorkedOut
+unfolding mark_after rows_worked_out
 shape-fresh {d} {block} r right e =
     let b = counts block right in
-    let all : rows_at block stagedShape - 0 ≡ rows_at block stagedShape = omega arith in
+    let all : rows_at block staged_shape - 0 ≡ rows_at block staged_shape = omega arith in
     record {
       outcome = fresh-by r e.0 e.1 e.2 e.3 e.4;
       changes = e.0;
       few = omega (arith, e.3, b.rows);
       room = rw (e.4, e.3) (omega (arith, b.points));
       whole = λ z staged live.
-          rw (e.1, e.2, e.3, e.4, all) (all-fresh (columnsAt block stagedShape) (rows_at block stagedShape) staged live b.rows);
+          rw (e.1, e.2, e.3, e.4, all) (all-fresh (columns_at block staged_shape) (rows_at block staged_shape) staged live b.rows);
     }
 
 -- ---- Any other write.
 
 pub rest-fresh : (op : ℕ) (d block : List ℕ) (r : Fresh) → (op ≡ 0x34 → ⊥) → (op ≡ 0x35 → ⊥)
     → (r.changes ≡ (eqb op 0x36 && eqb (byte_at d 0) 1)) × (r.mark ≡ 0) × (r.first ≡ 0) × (r.end ≡ 0) × (r.columns ≡ 0) → RowsFresh op d block r
-unfolding markAfter rowsWorkedOut bits_of refreshed
+unfolding mark_after rows_worked_out bits_of refreshed
 rest-fresh op d block r a b e =
     let same : r.changes ≡ marks op d = rw (e.0, ne_eqb op 0x34 a, ne_eqb op 0x35 b) in
     record {
@@ -125,44 +125,44 @@ rest-fresh op d block r a b e =
 
 -- ---- The four bytes.
 
-pub mark-stored : (block : List ℕ) (mark : ℕ) → length block ≡ blockSize
-    → sets (sets block markPlace (word_bytes (mark % 65536))) (markPlace + 2) (word_bytes (mark / 65536)) ≡ paste block markPlace (longBytes (mark ∷ [])) markSize
+pub mark-stored : (block : List ℕ) (mark : ℕ) → length block ≡ block_size
+    → sets (sets block mark_place (word_bytes (mark % 65536))) (mark_place + 2) (word_bytes (mark / 65536)) ≡ paste block mark_place (long_bytes (mark ∷ [])) mark_size
 mark-stored block mark l =
-    sets-append block markPlace (word_bytes (mark % 65536)) (word_bytes (mark / 65536))
-    ∙ sets-paste block markPlace (word_bytes (mark % 65536) ++ word_bytes (mark / 65536)) (omega arith)
+    sets-append block mark_place (word_bytes (mark % 65536)) (word_bytes (mark / 65536))
+    ∙ sets-paste block mark_place (word_bytes (mark % 65536) ++ word_bytes (mark / 65536)) (omega arith)
 
 -- ---- What is told.
 
 -- Four bytes are a number of 32 bits.
-pub mark-small : (block : List ℕ) → ((k : ℕ) → get_or block k 0 < 256) → longAt block markPlace < 2 ^ 32
+pub mark-small : (block : List ℕ) → ((k : ℕ) → get_or block k 0 < 256) → long_at block mark_place < 2 ^ 32
 mark-small block h = omega (arith, h 865, h 866, h 867, h 868)
 
-pub rows-promised : (block : List ℕ) → longAt block markPlace < 2 ^ 32 → (status count lowest : ℕ) → rowsOut status count lowest ≡ rowsTold block
+pub rows-promised : (block : List ℕ) → long_at block mark_place < 2 ^ 32 → (status count lowest : ℕ) → rows_out status count lowest ≡ rows_told block
     → RowsPromised block status count lowest
-unfolding rowsTold
-rows-promised block small status count lowest same = go (ℕ_discrete (length block) blockSize)
+unfolding rows_told
+rows-promised block small status count lowest same = go (ℕ_discrete (length block) block_size)
   where
-    go : Dec (length block ≡ blockSize) → RowsPromised block status count lowest
+    go : Dec (length block ≡ block_size) → RowsPromised block status count lowest
     go (yes e) =
-        let told : rowsOut status count lowest ≡ rowsOut 0 (count_true (markBits block)) (firstTrue (markBits block)) = same ∙ rw e in
+        let told : rows_out status count lowest ≡ rows_out 0 (count_true (mark_bits block)) (first_true (mark_bits block)) = same ∙ rw e in
         let none : status ≡ 0 = ap (λ (o : RowsOut). o.status) told in
-        let many : count ≡ count_true (markBits block) = ap (λ (o : RowsOut). o.count) told in
-        let low : lowest ≡ firstTrue (markBits block) = ap (λ (o : RowsOut). o.lowest) told in
+        let many : count ≡ count_true (mark_bits block) = ap (λ (o : RowsOut). o.count) told in
+        let low : lowest ≡ first_true (mark_bits block) = ap (λ (o : RowsOut). o.lowest) told in
         record {
           outcome = same;
           plain =
               record {
                 accepted = λ z. none;
                 wrong-length = λ wrong. absurd (wrong e);
-                marked = λ z. many ∙ sym (count_ones 32 (markAt block) small);
-                lowest-marked = λ z. low ∙ sym (first-set 32 (markAt block));
+                marked = λ z. many ∙ sym (count_ones 32 (mark_at block) small);
+                lowest-marked = λ z. low ∙ sym (first-set 32 (mark_at block));
               };
           moved = λ z staged live right.
-              let all = rows-counted (columnsAt block stagedShape) (rows_at block stagedShape) staged live (markAt block) right in
+              let all = rows-counted (columns_at block staged_shape) (rows_at block staged_shape) staged live (mark_at block) right in
               rw (many, low) (record { counted = all.counted; lowest-moved = all.lowest-moved });
         }
     go (no e) =
-        let told : rowsOut status count lowest ≡ rowsOut 1 0 0 = same ∙ rw (ne_eqb (length block) blockSize e) in
+        let told : rows_out status count lowest ≡ rows_out 1 0 0 = same ∙ rw (ne_eqb (length block) block_size e) in
         let one : status ≡ 1 = ap (λ (o : RowsOut). o.status) told in
         record {
           outcome = same;
@@ -182,18 +182,18 @@ pub record FewRows (o : RowsOut) : Type 0 where
   pub count : o.count ≤ 32
   pub lowest : o.lowest ≤ 32
 
-pub told-few : (block : List ℕ) → FewRows (rowsTold block)
-unfolding rowsTold
+pub told-few : (block : List ℕ) → FewRows (rows_told block)
+unfolding rows_told
 told-few block =
-    elim (ℕ_discrete (length block) blockSize) [
+    elim (ℕ_discrete (length block) block_size) [
       | yes e ↦
           rw e
           (record {
             status = omega arith;
-            count = omega (arith, count-few (markBits block), length-bits 32 (markAt block));
-            lowest = omega (arith, first-few (markBits block), length-bits 32 (markAt block));
+            count = omega (arith, count-few (mark_bits block), length-bits 32 (mark_at block));
+            lowest = omega (arith, first-few (mark_bits block), length-bits 32 (mark_at block));
           })
-      | no e ↦ rw (ne_eqb (length block) blockSize e) (record { status = omega arith; count = omega arith; lowest = omega arith })
+      | no e ↦ rw (ne_eqb (length block) block_size e) (record { status = omega arith; count = omega arith; lowest = omega arith })
     ]
 
 -- ---- What both families cite.
@@ -201,24 +201,24 @@ told-few block =
 -- The rows worked out are the mark after the write; where none are to be, the block is as it was.
 module _ {op : ℕ} {d block : List ℕ} {r : Fresh} (f : RowsFresh op d block r) (staged live : List ℕ) where
   pub rows-put : (mark : ℕ) → mark < 2 ^ 32 → r.changes ≡ true
-      → bits_of 32 mark ≡ refreshed (rowDiffers r.columns staged live) r.first (r.end - r.first) (bits_of 32 r.mark)
-      → paste block markPlace (longBytes (mark ∷ [])) markSize ≡ markedBlock op d block staged live
-  unfolding markedBlock
+      → bits_of 32 mark ≡ refreshed (row_differs r.columns staged live) r.first (r.end - r.first) (bits_of 32 r.mark)
+      → paste block mark_place (long_bytes (mark ∷ [])) mark_size ≡ marked_block op d block staged live
+  unfolding marked_block
   rows-put mark small any same =
       let number : of_bits (bits_of 32 mark) ≡ mark = number-back 32 mark small in
       rw (sym f.changes ∙ any, f.whole any staged live, ← same, number)
 
-  pub rows_left : r.changes ≡ false → block ≡ markedBlock op d block staged live
-  unfolding markedBlock
+  pub rows_left : r.changes ≡ false → block ≡ marked_block op d block staged live
+  unfolding marked_block
   rows_left none = rw (sym f.changes ∙ none)
 
 -- An accepted write leaves a block on which the mark may be worked out.
-pub mark-granted : {op o : ℕ} {d block : List ℕ} → Granted op o d block → isRead o ≡ 0 → ((k : ℕ) → get_or d k 0 < 256) → MarkGranted op d (blockAfter op d block)
-unfolding blockAfter runsPast
+pub mark-granted : {op o : ℕ} {d block : List ℕ} → Granted op o d block → is_read o ≡ 0 → ((k : ℕ) → get_or d k 0 < 256) → MarkGranted op d (block_after op d block)
+unfolding block_after runs_past
 mark-granted {op} {o} {d} {block} g w bytes =
     record {
       settings = settings-stay op o d block bytes w g.judged g.long g.settings;
-      placed = λ e. rw e (some (write-data 0x34 o d w (rw e at g.judged)), ltb-false _ _ (rw (e, ne_eqb (isRead o) 1 (omega arith)) at g.fits));
+      placed = λ e. rw e (some (write-data 0x34 o d w (rw e at g.judged)), ltb-false _ _ (rw (e, ne_eqb (is_read o) 1 (omega arith)) at g.fits));
     }
   where
     some : {d : List ℕ} → WriteData 0x34 d → 1 ≤ count_of d

@@ -6,11 +6,11 @@ use native.Mathlib.Omega.{arith}
 use lib.ListN.{get_or}
 use Rattle.opcode.proofs.Faults.{Located}
 use Rattle.opcode.proofs.Faults.{located}
-use Rattle.packet.specs.Frame.{opcode_of, optionsOf, data_of}
-use Rattle.packet.specs.Reading.{frameRefusals}
+use Rattle.packet.specs.Frame.{opcode_of, options_of, data_of}
+use Rattle.packet.specs.Reading.{frame_refusals}
 use Rattle.packet.proofs.Exactly.{bytes-of-data}
 use Rattle.front_end.specs.State.{State, stopped}
-use Rattle.front_end.specs.Commands.{runsPast}
+use Rattle.front_end.specs.Commands.{runs_past}
 use Rattle.front_end.specs.Step.{Out, reads, number_of, step}
 use Rattle.front_end.specs.Demands.{Handled}
 use Rattle.front_end.proofs.Demands.{runs, right-running, demand1, accepted-exactly}
@@ -25,11 +25,11 @@ use Rattle.front_end.proofs.Unmarked.{unmarked}
 
 -- Refusals 1 to 6 stand before those of the command, and 12 behind them.
 step-located : (p : List ℕ) → ((k : ℕ) → get_or p k 0 < 256) → (s : State) (reply : List ℕ)
-    → Located (opcode_of p) (optionsOf p) (data_of p) (step p s reply).status (step p s reply).fault-place
+    → Located (opcode_of p) (options_of p) (data_of p) (step p s reply).status (step p s reply).fault-place
 unfolding step number_of
 step-located p bytes s reply =
-    located (opcode_of p) (optionsOf p) (data_of p) ((1, stopped s reply) ∷ frameRefusals p)
-    ((12, runsPast (opcode_of p) (reads p) (data_of p) s.block) ∷ []) (omega arith) (bytes-of-data p bytes) refl refl
+    located (opcode_of p) (options_of p) (data_of p) ((1, stopped s reply) ∷ frame_refusals p)
+    ((12, runs_past (opcode_of p) (reads p) (data_of p) s.block) ∷ []) (omega arith) (bytes-of-data p bytes) refl refl
 
 pub handled : (p : List ℕ) → ((k : ℕ) → get_or p k 0 < 256) → (s : State) (reply : List ℕ) {o : Out} → o ≡ step p s reply → Handled p s reply o
 handled p bytes s reply e =

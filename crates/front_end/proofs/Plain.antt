@@ -13,19 +13,19 @@ use Rattle.wire.specs.First.{first}
 use Rattle.wire.specs.Buffers.{over}
 use Rattle.wire.proofs.Plain.{Each, first-applies}
 use Rattle.wire.proofs.Tests.{first-right, first-silent}
-use Rattle.opcode.specs.Options.{isRead}
+use Rattle.opcode.specs.Options.{is_read}
 use Rattle.opcode.specs.Judgement.{judgement}
 use Rattle.opcode.proofs.Faults.{Located}
 use Rattle.opcode.specs.Plain.{not_carried, lacks-length, wrong_size, out_of_range, merges}
-use Rattle.packet.specs.Frame.{headerOf, opcode_of, optionsOf, data_of}
+use Rattle.packet.specs.Frame.{header_of, opcode_of, options_of, data_of}
 use Rattle.packet.specs.Reading.{refusals, reading}
 use Rattle.packet.specs.Plain.{Refuses, too_short, too_long, other_length, other-sum, elsewhere, command, ReadPlain}
 use Rattle.packet.proofs.Frames.{reading-number}
 use Rattle.packet.proofs.Exactly.{exactly}
 use Rattle.packet.proofs.Promises.{read-promised}
 use Rattle.front_end.specs.State.{State, stopped}
-use Rattle.front_end.specs.Commands.{runsPast}
-use Rattle.front_end.specs.Step.{reads, stepRefusals, number_of, answers, replyData, replyTo, Out, step}
+use Rattle.front_end.specs.Commands.{runs_past}
+use Rattle.front_end.specs.Step.{reads, step_refusals, number_of, answers, reply_data, reply_to, Out, step}
 use Rattle.front_end.specs.Plain.{StateLent, LentRight, WithinTable, StepRefuses, lent-wrong, packet, past-table, Asks, ReplyData, ReplyWritten, LeftBy, StepPlain}
 use Rattle.front_end.proofs.Effects.{returns, some-returned, read-data}
 use Rattle.front_end.proofs.Demands.{lent, runs, running-right, right-running, refusals-numbered, demand1, accepted-exactly}
@@ -64,16 +64,16 @@ module _ (p : List ℕ) (bytes : (k : ℕ) → get_or p k 0 < 256) (s : State) (
   -- A packet that reading takes gets 0 or 12.
   taken-status : LentRight s reply → (reading p).number ≡ 0 → ((step p s reply).status ≡ 0) ⊎ ((step p s reply).status ≡ 12)
   unfolding step number_of
-  taken-status l z = go (runsPast (opcode_of p) (reads p) (data_of p) s.block) refl
+  taken-status l z = go (runs_past (opcode_of p) (reads p) (data_of p) s.block) refl
     where
-      same : first (stepRefusals p s reply) ≡ first ((12, runsPast (opcode_of p) (reads p) (data_of p) s.block) ∷ [])
+      same : first (step_refusals p s reply) ≡ first ((12, runs_past (opcode_of p) (reads p) (data_of p) s.block) ∷ [])
       same =
           rw (runs s reply (right-running l))
-          (first-right (refusals p) ((12, runsPast (opcode_of p) (reads p) (data_of p) s.block) ∷ [])
+          (first-right (refusals p) ((12, runs_past (opcode_of p) (reads p) (data_of p) s.block) ∷ [])
           (first-silent (refusals p) (refusals-numbered p) (sym (reading-number p) ∙ z)))
 
-      go : (b : Bool) → runsPast (opcode_of p) (reads p) (data_of p) s.block ≡ b
-          → (first (stepRefusals p s reply) ≡ 0) ⊎ (first (stepRefusals p s reply) ≡ 12)
+      go : (b : Bool) → runs_past (opcode_of p) (reads p) (data_of p) s.block ≡ b
+          → (first (step_refusals p s reply) ≡ 0) ⊎ (first (step_refusals p s reply) ≡ 12)
       go true e = inr (same ∙ rw e)
       go false e = inl (same ∙ rw e)
 
@@ -102,11 +102,11 @@ module _ (p : List ℕ) (bytes : (k : ℕ) → get_or p k 0 < 256) (s : State) (
   unfolding step number_of
   status-few = go (stopped s reply) refl
     where
-      go : (b : Bool) → stopped s reply ≡ b → first (stepRefusals p s reply) ≤ 12
+      go : (b : Bool) → stopped s reply ≡ b → first (step_refusals p s reply) ≤ 12
       go true e = rw e (omega arith)
       go false e = rw e (placed-number p s.block).small
 
-  given : Each (λ (k : ℕ). (step p s reply).status ≡ k → StepRefuses p s reply k) (stepRefusals p s reply)
+  given : Each (λ (k : ℕ). (step p s reply).status ≡ k → StepRefuses p s reply k) (step_refusals p s reply)
   unfolding judgement
   given = (
     λ e. lent-wrong ((demand1 p s reply).one.0 e),
@@ -132,32 +132,32 @@ module _ (p : List ℕ) (bytes : (k : ℕ) → get_or p k 0 < 256) (s : State) (
 
   -- ---- What is left.
 
-  same-state : ((step p s reply).status ≡ 0 → isRead (headerOf p) ≡ 1) → (step p s reply).state ≡ s
+  same-state : ((step p s reply).status ≡ 0 → is_read (header_of p) ≡ 1) → (step p s reply).state ≡ s
   unfolding step
   same-state h =
       elim (ℕ_discrete (number_of p s reply) 0) [
-        | yes z ↦ rw (z, eq-eqb (isRead (headerOf p)) 1 (h z))
+        | yes z ↦ rw (z, eq-eqb (is_read (header_of p)) 1 (h z))
         | no some ↦ rw (ne_eqb (number_of p s reply) 0 some)
       ]
 
-  left_by : (step p s reply).status ≡ 0 → isRead (headerOf p) ≡ 0 → LeftBy p s (step p s reply)
+  left_by : (step p s reply).status ≡ 0 → is_read (header_of p) ≡ 0 → LeftBy p s (step p s reply)
   left_by z w =
       let left = (demand2 p bytes s reply).leaves ((accepted-exactly p bytes s reply).0 z) w in
       record { after = left.after; by = left.by; all-but-mark = ap (λ (o : Out). o.state) left.answer }
 
   -- ---- The reply.
 
-  reply-data : ReplyData p s (step p s reply).status (step p s reply).fault-place (replyData (step p s reply).status (step p s reply).fault-place p s)
+  reply-data : ReplyData p s (step p s reply).status (step p s reply).fault-place (reply_data (step p s reply).status (step p s reply).fault-place p s)
   reply-data =
       elim (ℕ_discrete status 0) [
         | yes z ↦
-            elim (ℕ_discrete (isRead (headerOf p)) 1) [
+            elim (ℕ_discrete (is_read (header_of p)) 1) [
               | yes r ↦
                   let a = (accepted-exactly p bytes s reply).0 z in
                   let some = some-returned s a.lent.settings (read-data a.taken.allowed (omega arith)) in
-                  as-data (rw (eq-eqb status 0 z, eq-eqb (isRead (headerOf p)) 1 r) (returns some.by)) (ReplyData.returned z r some.by)
+                  as-data (rw (eq-eqb status 0 z, eq-eqb (is_read (header_of p)) 1 r) (returns some.by)) (ReplyData.returned z r some.by)
               | no w ↦
-                  as-data (rw (ne_eqb (isRead (headerOf p)) 1 w, and-false, z)) (ReplyData.none (λ e. omega arith) (λ e. omega arith))
+                  as-data (rw (ne_eqb (is_read (header_of p)) 1 w, and-false, z)) (ReplyData.none (λ e. omega arith) (λ e. omega arith))
             ]
         | no some ↦
             elim (ℕ_discrete status 10) [
@@ -177,18 +177,18 @@ module _ (p : List ℕ) (bytes : (k : ℕ) → get_or p k 0 < 256) (s : State) (
       as-data same h = subst (ReplyData p s status fault) (sym same) h
 
   reply-written : Asks p → ((step p s reply).status ≡ 1 → ⊥) → ReplyWritten p s reply (step p s reply)
-  unfolding step replyTo over
+  unfolding step reply_to over
   reply-written a other =
       let e = answered (number_of p s reply) p (a, other) in
       record {
-        content = replyData (step p s reply).status (step p s reply).fault-place p s;
+        content = reply_data (step p s reply).status (step p s reply).fault-place p s;
         by = reply-data;
         size = rw e;
         bytes = rw e;
       }
 
   no-reply : (Asks p → (step p s reply).status ≡ 1) → ((step p s reply).size ≡ 0) × ((step p s reply).reply ≡ reply)
-  unfolding step replyTo over
+  unfolding step reply_to over
   no-reply h = go (answers (number_of p s reply) p) refl
     where
       go : (b : Bool) → answers (number_of p s reply) p ≡ b → ((step p s reply).size ≡ 0) × ((step p s reply).reply ≡ reply)
@@ -196,12 +196,12 @@ module _ (p : List ℕ) (bytes : (k : ℕ) → get_or p k 0 < 256) (s : State) (
       go false e = rw e (refl, refl)
 
 pub step-plain : (p : List ℕ) → ((k : ℕ) → get_or p k 0 < 256) → (s : State) (reply : List ℕ)
-    → Located (opcode_of p) (optionsOf p) (data_of p) (step p s reply).status (step p s reply).fault-place → StepPlain p s reply (step p s reply)
+    → Located (opcode_of p) (options_of p) (data_of p) (step p s reply).status (step p s reply).fault-place → StepPlain p s reply (step p s reply)
 step-plain p bytes s reply l =
     record {
       number =
           record {
-            applies = first-applies (StepRefuses p s reply) (stepRefusals p s reply) (demand1 p s reply).number (given p bytes s reply);
+            applies = first-applies (StepRefuses p s reply) (step_refusals p s reply) (demand1 p s reply).number (given p bytes s reply);
             passed = λ b r. passed p bytes s reply b r;
           };
       fault-place = l.first;

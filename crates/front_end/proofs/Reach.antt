@@ -7,7 +7,7 @@ use native.Mathlib.Decide.{ℕ_discrete}
 use borrow.Author.Tests.{ne_eqb}
 use Rattle.settings.specs.Layout.{stored, returned}
 use Rattle.front_end.specs.State.{State}
-use Rattle.front_end.specs.Commands.{blockAfter, blockBack, dataBack}
+use Rattle.front_end.specs.Commands.{block_after, block_back, data_back}
 
 pub record Other (op : ℕ) : Type 0 where
   pub not-gains : op ≡ 0x2B → ⊥
@@ -48,8 +48,8 @@ kind_of op =
     ]
 
 -- The others store at their place, and return what stands there.
-pub other_after : (op : ℕ) (d block : List ℕ) → Other op → blockAfter op d block ≡ stored op d block
-unfolding blockAfter
+pub other_after : (op : ℕ) (d block : List ℕ) → Other op → block_after op d block ≡ stored op d block
+unfolding block_after
 other_after op d block k =
     rw (
       ne_eqb op 0x2B k.not-gains,
@@ -59,8 +59,8 @@ other_after op d block k =
       ne_eqb op 0x38 k.not-smooth,
     )
 
-pub other-back : (op : ℕ) (d : List ℕ) (s : State) → Other op → dataBack op d s ≡ returned op d s.block
-unfolding dataBack blockBack
+pub other-back : (op : ℕ) (d : List ℕ) (s : State) → Other op → data_back op d s ≡ returned op d s.block
+unfolding data_back block_back
 other-back op d s k =
     rw (
       ne_eqb op 0x2B k.not-gains,

@@ -11,51 +11,51 @@ use lib.ListN.{length}
 use lib.Dec.{eqb}
 use Rattle.wire.specs.Buffers.{over}
 use Rattle.wire.specs.Numbers.{word_bytes}
-use Rattle.opcode.specs.Options.{hasChecksum, asksReply, isRead}
-use Rattle.packet.specs.Frame.{headerOf, opcode_of, data_of}
-use Rattle.reply.specs.Reply.{replyBytes}
+use Rattle.opcode.specs.Options.{has_checksum, asks_reply, is_read}
+use Rattle.packet.specs.Frame.{header_of, opcode_of, data_of}
+use Rattle.reply.specs.Reply.{reply_bytes}
 use Rattle.front_end.specs.State.{State}
-use Rattle.front_end.specs.Commands.{dataBack}
-use Rattle.front_end.specs.Step.{reads, answers, placeData, statusReply, replyTo}
+use Rattle.front_end.specs.Commands.{data_back}
+use Rattle.front_end.specs.Step.{reads, answers, place_data, status_reply, reply_to}
 
 -- Bits 6 and 7 of a header, both 0 or not.
-neither : (h : ℕ) → h / 64 % 4 ≡ 0 → (eqb (isRead h) 1 || eqb (asksReply h) 1) ≡ false
+neither : (h : ℕ) → h / 64 % 4 ≡ 0 → (eqb (is_read h) 1 || eqb (asks_reply h) 1) ≡ false
 neither h e =
-    let read : isRead h ≡ 0 = omega arith in
-    let asks : asksReply h ≡ 0 = omega arith in
+    let read : is_read h ≡ 0 = omega arith in
+    let asks : asks_reply h ≡ 0 = omega arith in
     rw (read, asks)
 
-either : (h : ℕ) → (h / 64 % 4 ≡ 0 → ⊥) → (eqb (isRead h) 1 || eqb (asksReply h) 1) ≡ true
+either : (h : ℕ) → (h / 64 % 4 ≡ 0 → ⊥) → (eqb (is_read h) 1 || eqb (asks_reply h) 1) ≡ true
 either h e =
-    let bits : h / 64 % 4 ≡ asksReply h + 2 * isRead h = omega arith in
-    elim (ℕ_discrete (isRead h) 1) [
+    let bits : h / 64 % 4 ≡ asks_reply h + 2 * is_read h = omega arith in
+    elim (ℕ_discrete (is_read h) 1) [
       | yes read ↦ rw read
-      | no read ↦ let asks : asksReply h ≡ 1 = omega arith in rw (ne_eqb (isRead h) 1 read, asks)
+      | no read ↦ let asks : asks_reply h ≡ 1 = omega arith in rw (ne_eqb (is_read h) 1 read, asks)
     ]
 
 -- No first byte, neither bit, or number 1: no reply.
 pub no_byte : (n : ℕ) (p : List ℕ) → length p ≡ 0 → answers n p ≡ false
 no_byte n p e = rw e
 
-pub not-asked : (n : ℕ) (p : List ℕ) → headerOf p / 64 % 4 ≡ 0 → answers n p ≡ false
-not-asked n p e = rw (neither (headerOf p) e, and-false)
+pub not-asked : (n : ℕ) (p : List ℕ) → header_of p / 64 % 4 ≡ 0 → answers n p ≡ false
+not-asked n p e = rw (neither (header_of p) e, and-false)
 
 pub stopped-1 : (n : ℕ) (p : List ℕ) → n ≡ 1 → answers n p ≡ false
 stopped-1 n p e = rw (e, and-false)
 
-pub asked : (n : ℕ) (p : List ℕ) → (length p ≡ 0 → ⊥) → (headerOf p / 64 % 4 ≡ 0 → ⊥) → (n ≡ 1 → ⊥) → answers n p ≡ true
-asked n p some bits not-1 = rw (lt-ltb 0 (length p) (omega arith), either (headerOf p) bits, ne_eqb n 1 not-1)
+pub asked : (n : ℕ) (p : List ℕ) → (length p ≡ 0 → ⊥) → (header_of p / 64 % 4 ≡ 0 → ⊥) → (n ≡ 1 → ⊥) → answers n p ≡ true
+asked n p some bits not-1 = rw (lt-ltb 0 (length p) (omega arith), either (header_of p) bits, ne_eqb n 1 not-1)
 
-pub unanswered : (n f : ℕ) (p reply : List ℕ) → answers n p ≡ false → (0 ≡ length (statusReply n f p)) × (reply ≡ over (statusReply n f p) reply)
-unfolding statusReply over
+pub unanswered : (n f : ℕ) (p reply : List ℕ) → answers n p ≡ false → (0 ≡ length (status_reply n f p)) × (reply ≡ over (status_reply n f p) reply)
+unfolding status_reply over
 unanswered n f p reply e = rw e (refl, refl)
 
-pub answered-status : (n f : ℕ) (p : List ℕ) → answers n p ≡ true → statusReply n f p ≡ replyBytes (eqb (hasChecksum (headerOf p)) 1) n (placeData n f)
-unfolding statusReply
+pub answered-status : (n f : ℕ) (p : List ℕ) → answers n p ≡ true → status_reply n f p ≡ reply_bytes (eqb (has_checksum (header_of p)) 1) n (place_data n f)
+unfolding status_reply
 answered-status n f p e = rw e
 
 -- A place has two bytes.
-pub place-few : (n f : ℕ) → length (placeData n f) ≤ 2
+pub place-few : (n f : ℕ) → length (place_data n f) ≤ 2
 place-few n f = go (eqb n 10)
   where
     go : (b : Bool) → length (cond b (word_bytes f) []) ≤ 2
@@ -64,6 +64,6 @@ place-few n f = go (eqb n 10)
 
 -- The reply of an accepted read.
 pub read-reply : (p : List ℕ) (s : State) → 0 < length p → reads p ≡ true
-    → replyTo 0 p s ≡ replyBytes (eqb (hasChecksum (headerOf p)) 1) 0 (dataBack (opcode_of p) (data_of p) s)
-unfolding replyTo
+    → reply_to 0 p s ≡ reply_bytes (eqb (has_checksum (header_of p)) 1) 0 (data_back (opcode_of p) (data_of p) s)
+unfolding reply_to
 read-reply p s some r = rw (r, lt-ltb 0 (length p) some)

@@ -9,16 +9,16 @@ use lib.ListN.{length}
 use lib.Dec.{eqb}
 use Rattle.wire.specs.First.{first}
 use Rattle.wire.specs.Buffers.{over}
-use Rattle.packet.specs.Frame.{headerOf, opcode_of, data_of}
-use Rattle.packet.specs.Reading.{faultOf, answered}
+use Rattle.packet.specs.Frame.{header_of, opcode_of, data_of}
+use Rattle.packet.specs.Reading.{fault_of, answered}
 use Rattle.front_end.specs.State.{State, stopped}
-use Rattle.front_end.specs.Mark.{writtenMarked}
-use Rattle.front_end.specs.Step.{reads, readAndPlaced, decision, number_of, answers, replyTo, statusReply, readReply, out_of, step}
+use Rattle.front_end.specs.Mark.{written_marked}
+use Rattle.front_end.specs.Step.{reads, read_and_placed, decision, number_of, answers, reply_to, status_reply, read_reply, out_of, step}
 
 -- The number that a decision gives is the first of its refusals.
-pub decision-number : (p block : List ℕ) → (decision p block).number ≡ first (readAndPlaced p block)
+pub decision-number : (p block : List ℕ) → (decision p block).number ≡ first (read_and_placed p block)
 unfolding decision
-decision-number p block = go (first (readAndPlaced p block)) (eqb (first (readAndPlaced p block)) 0) refl
+decision-number p block = go (first (read_and_placed p block)) (eqb (first (read_and_placed p block)) 0) refl
   where
     go : (n : ℕ) (b : Bool) → eqb n 0 ≡ b → (answered n p).number ≡ n
     go n true e = rw e (sym (eqb-true n 0 e))
@@ -35,7 +35,7 @@ module _ (p : List ℕ) (s : State) (reply : List ℕ) where
   step_by n e = ap (λ (n : ℕ). out_of n p s reply) e
 
   pub step-stopped : stopped s reply ≡ true → step p s reply ≡ record { status = 1; fault-place = 0; size = 0; state = s; reply = reply }
-  unfolding number_of replyTo over
+  unfolding number_of reply_to over
   step-stopped e = step_by 1 (rw e) ∙ rw and-false
 
   module _ (runs : stopped s reply ≡ false) where
@@ -47,12 +47,12 @@ module _ (p : List ℕ) (s : State) (reply : List ℕ) where
         → step p s reply
         ≡ record {
           status = n;
-          fault-place = faultOf n p;
-          size = length (statusReply n (faultOf n p) p);
+          fault-place = fault_of n p;
+          size = length (status_reply n (fault_of n p) p);
           state = s;
-          reply = over (statusReply n (faultOf n p) p) reply;
+          reply = over (status_reply n (fault_of n p) p) reply;
         }
-    unfolding replyTo statusReply
+    unfolding reply_to status_reply
     step-refused n h e = step_by n (number n e) ∙ rw (ne_eqb n 0 h)
 
     pub step-read : (decision p s.block).number ≡ 0 → reads p ≡ true
@@ -60,11 +60,11 @@ module _ (p : List ℕ) (s : State) (reply : List ℕ) where
         ≡ record {
           status = 0;
           fault-place = 0;
-          size = length (readReply (opcode_of p) (headerOf p) (data_of p) s);
+          size = length (read_reply (opcode_of p) (header_of p) (data_of p) s);
           state = s;
-          reply = over (readReply (opcode_of p) (headerOf p) (data_of p) s) reply;
+          reply = over (read_reply (opcode_of p) (header_of p) (data_of p) s) reply;
         }
-    unfolding replyTo
+    unfolding reply_to
     step-read e r = step_by 0 (number 0 e) ∙ rw (read-answers p r, r)
 
     pub step-written : (decision p s.block).number ≡ 0 → reads p ≡ false
@@ -72,9 +72,9 @@ module _ (p : List ℕ) (s : State) (reply : List ℕ) where
         ≡ record {
           status = 0;
           fault-place = 0;
-          size = length (statusReply 0 0 p);
-          state = writtenMarked (opcode_of p) (data_of p) s;
-          reply = over (statusReply 0 0 p) reply;
+          size = length (status_reply 0 0 p);
+          state = written_marked (opcode_of p) (data_of p) s;
+          reply = over (status_reply 0 0 p) reply;
         }
-    unfolding replyTo statusReply
+    unfolding reply_to status_reply
     step-written e r = step_by 0 (number 0 e) ∙ rw r

@@ -15,9 +15,9 @@ calls_of reply [] = []
 calls_of reply (p ∷ ps) = record { packet = p; reply = reply } ∷ calls_of reply ps
 
 -- The state that calls leave, one after another.
-unfoldable pub stateAfterAll : List Call → State → State
-stateAfterAll [] s = s
-stateAfterAll (x ∷ xs) s = stateAfterAll xs (step x.packet s x.reply).state
+unfoldable pub state_after_all : List Call → State → State
+state_after_all [] s = s
+state_after_all (x ∷ xs) s = state_after_all xs (step x.packet s x.reply).state
 
 -- Rule 5.6: no packet of the list applies, each judged on the state that it gets.
 pub data NoneApplies : List Call → State → Type 0 where

@@ -4,19 +4,19 @@
 -- without a meaning and planning.
 use Rattle.std.specs.Prelude.{ℕ, ◌+◌, ◌≤◌, ◌≡◌, ◌↔◌, true, List, length, take, drop, get_or, set, eqb}
 use Rattle.wire.specs.Numbers.{word_at}
-use Rattle.opcode.specs.Options.{hasChecksum, isRead}
-use Rattle.packet.specs.Frame.{headerOf}
-use Rattle.packet.specs.Points.{acceptedAt, mapAfter}
+use Rattle.opcode.specs.Options.{has_checksum, is_read}
+use Rattle.packet.specs.Frame.{header_of}
+use Rattle.packet.specs.Points.{accepted_at, map_after}
 use Rattle.packet.specs.Sound.{Taken}
-use Rattle.reply.specs.Reading.{replyReading}
+use Rattle.reply.specs.Reading.{reply_reading}
 use Rattle.row_mark.specs.Right.{RightFor, RowsCounted}
 use Rattle.settings.specs.Allowed.{SettingsAllowed}
 use Rattle.front_end.specs.State.{State, state, ResetOut, reset}
 use Rattle.front_end.specs.Writes.{Writes, Sets36, Applies}
-use Rattle.front_end.specs.Rows.{mark_of, columnsOf, rows_of, MarkRight, SameButMark, SameAnswer, RowsPlain}
-use Rattle.front_end.specs.Mark.{rowsOut, rowsTold}
-use Rattle.front_end.specs.Plain.{StateLent, LentRight, stagedPoints, WithinTable, Asks, StepPlain, ResetPlain}
-use Rattle.front_end.specs.Step.{replyData, Out, step}
+use Rattle.front_end.specs.Rows.{mark_of, columns_of, rows_of, MarkRight, SameButMark, SameAnswer, RowsPlain}
+use Rattle.front_end.specs.Mark.{rows_out, rows_told}
+use Rattle.front_end.specs.Plain.{StateLent, LentRight, staged_points, WithinTable, Asks, StepPlain, ResetPlain}
+use Rattle.front_end.specs.Step.{reply_data, Out, step}
 
 -- ---- Demand 2: which packets are accepted.
 
@@ -35,13 +35,13 @@ pub record Accepted (p : List ℕ) (s : State) (reply : List ℕ) : Type 0 where
 -- status, and its data.
 pub record Replied (p : List ℕ) (s : State) (o : Out) : Type 0 where
   pub asked : (1 ≤ o.size) ↔ (Asks p × (o.status ≡ 1 → ⊥))
-  pub bare : (o.status ≡ 0 → isRead (headerOf p) ≡ 0) → (o.status ≡ 10 → ⊥) → 1 ≤ o.size → o.size ≡ 3 + hasChecksum (headerOf p)
-  pub names : o.status ≡ 10 → 1 ≤ o.size → (o.size ≡ 5 + hasChecksum (headerOf p)) × (word_at o.reply 3 ≡ o.fault-place)
+  pub bare : (o.status ≡ 0 → is_read (header_of p) ≡ 0) → (o.status ≡ 10 → ⊥) → 1 ≤ o.size → o.size ≡ 3 + has_checksum (header_of p)
+  pub names : o.status ≡ 10 → 1 ≤ o.size → (o.size ≡ 5 + has_checksum (header_of p)) × (word_at o.reply 3 ≡ o.fault-place)
   pub means : 1 ≤ o.size
-      → replyReading (take o.size o.reply) (eqb (hasChecksum (headerOf p)) 1)
-      ≡ record { number = 0; status = o.status; place = 3; size = length (replyData o.status o.fault-place p s) }
+      → reply_reading (take o.size o.reply) (eqb (has_checksum (header_of p)) 1)
+      ≡ record { number = 0; status = o.status; place = 3; size = length (reply_data o.status o.fault-place p s) }
   pub content : 1 ≤ o.size
-      → take (length (replyData o.status o.fault-place p s)) (drop 3 (take o.size o.reply)) ≡ replyData o.status o.fault-place p s
+      → take (length (reply_data o.status o.fault-place p s)) (drop 3 (take o.size o.reply)) ≡ reply_data o.status o.fault-place p s
 
 -- ---- 36h, rule 5.6: the live side is the points, and the shape, mode and lists in the block; enable stands before it.
 
@@ -64,8 +64,8 @@ pub record LiveKept (s t : State) : Type 0 where
 
 -- Rules 5.4 and 7.1: the staged points stand where the judge has a map of N points.
 pub record SameWrite (p : List ℕ) (s : State) (o : Out) : Type 0 where
-  pub staged : o.state.staged ≡ mapAfter (stagedPoints s.block) p s.staged
-  pub accepted : (acceptedAt (stagedPoints s.block) p ≡ true) ↔ Writes 0x34 p o
+  pub staged : o.state.staged ≡ map_after (staged_points s.block) p s.staged
+  pub accepted : (accepted_at (staged_points s.block) p ≡ true) ↔ Writes 0x34 p o
 
 -- ---- The promise of the entries, on tables of numbers.
 
@@ -104,8 +104,8 @@ pub record Resets (s : State) (o : ResetOut) : Type 0 where
 
 -- Rule 11.4: what is told of the row mark.
 pub record RowsPromised (block : List ℕ) (status count lowest : ℕ) : Type 0 where
-  pub outcome : rowsOut status count lowest ≡ rowsTold block
+  pub outcome : rows_out status count lowest ≡ rows_told block
   pub plain : RowsPlain block status count lowest
   -- Of a right mark they are those of the rows that moved.
-  pub moved : status ≡ 0 → (staged live : List ℕ) → RightFor (columnsOf block) (rows_of block) staged live (mark_of block)
-      → RowsCounted (columnsOf block) (rows_of block) staged live count lowest
+  pub moved : status ≡ 0 → (staged live : List ℕ) → RightFor (columns_of block) (rows_of block) staged live (mark_of block)
+      → RowsCounted (columns_of block) (rows_of block) staged live count lowest

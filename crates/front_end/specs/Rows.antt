@@ -23,8 +23,8 @@ abbrev pub MarkBytes : List ℕ → Type 0
 MarkBytes block = (k : ℕ) → k < 4 → get_or block (865 + k) 0 < 256
 
 -- The staged shape, block bytes 9 to 12.
-abbrev pub columnsOf : List ℕ → ℕ
-columnsOf block = two (get_or block 9 0) (get_or block 10 0)
+abbrev pub columns_of : List ℕ → ℕ
+columns_of block = two (get_or block 9 0) (get_or block 10 0)
 
 abbrev pub rows_of : List ℕ → ℕ
 rows_of block = two (get_or block 11 0) (get_or block 12 0)
@@ -32,13 +32,13 @@ rows_of block = two (get_or block 11 0) (get_or block 12 0)
 -- A row of the staged shape has moved; its bit is right if it is set exactly then; the mark is if
 -- each of its bits is.
 abbrev pub RowMoved : State → ℕ → Type 0
-RowMoved s r = Moved (columnsOf s.block) (rows_of s.block) s.staged s.live r
+RowMoved s r = Moved (columns_of s.block) (rows_of s.block) s.staged s.live r
 
 abbrev pub RowRight : State → ℕ → Type 0
 RowRight s r = (bit_at (mark_of s.block) r ≡ 1) ↔ RowMoved s r
 
 abbrev pub MarkRight : State → Type 0
-MarkRight s = RightFor (columnsOf s.block) (rows_of s.block) s.staged s.live (mark_of s.block)
+MarkRight s = RightFor (columns_of s.block) (rows_of s.block) s.staged s.live (mark_of s.block)
 
 -- ---- Rules 11.2 and 11.3: what a packet does to it.
 
@@ -53,8 +53,8 @@ pub record RowsMarked (p : List ℕ) (s : State) (o : Out) : Type 0 where
   pub row-right : (r : ℕ) → r < 32 → RowRight s r → RowRight o.state r
   -- Rule 11.2: whatever the mark was, a 34h write leaves the bits of the rows that it touches
   -- right, and no other bit changed.
-  pub touched : Writes 0x34 p o → (r : ℕ) → TouchedBy (columnsOf s.block) p r → RowRight o.state r
-  pub untouched : Writes 0x34 p o → (r : ℕ) → r < 32 → (TouchedBy (columnsOf s.block) p r → ⊥) → bit_at (mark_of o.state.block) r ≡ bit_at (mark_of s.block) r
+  pub touched : Writes 0x34 p o → (r : ℕ) → TouchedBy (columns_of s.block) p r → RowRight o.state r
+  pub untouched : Writes 0x34 p o → (r : ℕ) → r < 32 → (TouchedBy (columns_of s.block) p r → ⊥) → bit_at (mark_of o.state.block) r ≡ bit_at (mark_of s.block) r
   -- A 35h write leaves all of it right.
   pub reshaped : Writes 0x35 p o → MarkRight o.state
   -- A 36h write of 1 clears it.

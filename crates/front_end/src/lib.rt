@@ -1,5 +1,7 @@
 // The front end's part that needs no table: the decision on a packet, the settings of the block, and replies of a status. Both families of
 // entries, on 16-bit tables and on tables lent as bytes, stand on it.
+#![tactic(auto)]
+
 pub mod mark;
 
 ghost use Rattle.std.specs.Prelude.{◌≡◌, cond, true, ◌+◌, ◌^◌, ◌<◌, ◌≤◌, length, take, drop, eqb, ltb};
@@ -7,16 +9,16 @@ ghost use Rattle.std.proofs.Math.Seq.{paste};
 ghost use Rattle.wire.specs.Buffers.{Overwrites};
 ghost use Rattle.wire.specs.First.{first};
 ghost use Rattle.wire.specs.Numbers.{byte_at};
-ghost use Rattle.opcode.specs.Options.{isRead};
+ghost use Rattle.opcode.specs.Options.{is_read};
 ghost use Rattle.opcode.specs.Judgement.{judgement};
 ghost use Rattle.packet.specs.Reading.{answer};
-ghost use Rattle.settings.specs.Layout.{blockSize, shapeHead, listsSize};
-ghost use Rattle.settings.specs.Ranges.{settingsRight};
-ghost use Rattle.front_end.specs.State.{replyRoom, dataRoom};
-ghost use Rattle.front_end.specs.Commands.{pointCount, colourPlace, gainsStart, gainsCount, third, runsPast};
-ghost use Rattle.front_end.specs.Commands.{blockAfter, blockBack, writeShape, applyBlock, readShape};
+ghost use Rattle.settings.specs.Layout.{block_size, shape_head, lists_size};
+ghost use Rattle.settings.specs.Ranges.{settings_right};
+ghost use Rattle.front_end.specs.State.{reply_room, data_room};
+ghost use Rattle.front_end.specs.Commands.{«point_count», colour_place, gains_start, gains_count, third, «runs_past»};
+ghost use Rattle.front_end.specs.Commands.{block_after, block_back, write_shape, apply_block, read_shape};
 ghost use Rattle.front_end.specs.Internal.{PointsNamed, GainsNamed};
-ghost use Rattle.front_end.specs.Step.{decision, placeData, statusReply};
+ghost use Rattle.front_end.specs.Step.{decision, place_data, status_reply};
 
 use opcode::bits;
 use packet::Reading;
@@ -67,7 +69,7 @@ pub fn decide(packet: &[u8], block: &[u8]) -> Reading
 
 // Whether start + count goes past the staged shape's points (34h, rule 5.4) or past a colour's gains (2Bh, rules 5.8 and 5.11).
 fn runs_past(opcode: usize, reads: bool, data: &[u8], block: &[u8]) -> bool
-    ensures { result ≡ runsPast opcode reads «data».now block.now }
+    ensures { result ≡ «runs_past» opcode reads «data».now block.now }
 {
     if opcode == 0x34 {
         let named = points_named(reads, data);
@@ -82,7 +84,7 @@ fn runs_past(opcode: usize, reads: bool, data: &[u8], block: &[u8]) -> bool
 
 // 2Bh: a write of pairs has as many gains as its runs add up to.
 fn gains_past(reads: bool, data: &[u8]) -> bool
-    ensures { result ≡ ltb third (gainsStart reads «data».now + gainsCount reads «data».now) }
+    ensures { result ≡ ltb third (gains_start reads «data».now + gains_count reads «data».now) }
 {
     let named = gains_named(reads, data);
     if !reads & opcode::in_pairs(data) {
@@ -109,7 +111,7 @@ pub fn points_named(reads: bool, data: &[u8]) -> Points
 
 // A read sends its count; a write has the points behind its start.
 fn point_count(reads: bool, data: &[u8]) -> usize
-    ensures { (result ≡ pointCount reads «data».now) × (result < 2 ^ 63) }
+    ensures { (result ≡ «point_count» reads «data».now) × (result < 2 ^ 63) }
 {
     if reads {
         return wire::word(data, 2);
@@ -150,7 +152,7 @@ pub fn gains_named(reads: bool, data: &[u8]) -> Gains
 fn gains_at(colour: usize, start: usize, count: usize) -> Gains
     requires { (colour < 256) × (start < 65536) }
     ensures { (result.colour ≡ colour) × (result.start ≡ start) × (result.count ≡ count)
-        × (result.place ≡ colourPlace colour start) }
+        × (result.place ≡ colour_place colour start) }
 {
     if colour == 0 {
         return Gains {
@@ -170,8 +172,8 @@ fn gains_at(colour: usize, start: usize, count: usize) -> Gains
 
 // Writes the reply that carries a status, and of refusal 10 its place, if the packet asks for one. Answers its length, 0 for none.
 pub fn acknowledge(packet: &[u8], number: usize, place: usize, reply: &mut [u8]) -> usize
-    requires { (number < 256) × (place < 65536) × (replyRoom ≤ length reply.old) }
-    ensures { Overwrites result (statusReply number place packet.now) reply.old reply.new }
+    requires { (number < 256) × (place < 65536) × (reply_room ≤ length reply.old) }
+    ensures { Overwrites result (status_reply number place packet.now) reply.old reply.new }
 {
     if packet.len() == 0 {
         return 0;
@@ -190,8 +192,8 @@ pub fn acknowledge(packet: &[u8], number: usize, place: usize, reply: &mut [u8])
 
 // The data of such a reply, over the start of the buffer: of refusal 10 the place in two bytes, else none. Answers its size.
 fn put_place(out: &mut [u8], number: usize, place: usize) -> usize
-    requires { (place < 65536) × (dataRoom ≤ length out.old) }
-    ensures { Overwrites result (placeData number place) out.old out.new }
+    requires { (place < 65536) × (data_room ≤ length out.old) }
+    ensures { Overwrites result (place_data number place) out.old out.new }
 {
     if number == 10 {
         wire::put_word(out, 0, place);
@@ -209,9 +211,9 @@ pub struct Outcome {
 
 // The answer to a packet that a decision refuses.
 pub fn refuse(decision: Reading, packet: &[u8], reply: &mut [u8]) -> Outcome
-    requires { ((answer decision).fault-place < 65536) × (replyRoom ≤ length reply.old) }
+    requires { ((answer decision).fault-place < 65536) × (reply_room ≤ length reply.old) }
     ensures { (result.why.number ≡ (answer decision).number) × (result.why.place ≡ (answer decision).fault-place)
-        × Overwrites result.size (statusReply (answer decision).number (answer decision).fault-place packet.now)
+        × Overwrites result.size (status_reply (answer decision).number (answer decision).fault-place packet.now)
         reply.old reply.new }
 {
     let why = decision.refusal();
@@ -222,9 +224,9 @@ pub fn refuse(decision: Reading, packet: &[u8], reply: &mut [u8]) -> Outcome
 // What an accepted write's command stores in the block; 2Bh and 34h store in tables alone. The row mark is put behind it (`mark`). What any other stores ends its data, behind the pin or port. Sizes come
 // by `size_of`, since the table of opcodes would be built on the stack once more.
 pub fn store(block: &mut [u8], opcode: usize, options: usize, data: &[u8])
-    requires { (length block.old ≡ blockSize) × (isRead options ≡ 0)
+    requires { (length block.old ≡ block_size) × (is_read options ≡ 0)
         × (first (judgement opcode options «data».now) ≡ 0) }
-    ensures { block.new ≡ blockAfter opcode «data».now block.old }
+    ensures { block.new ≡ block_after opcode «data».now block.old }
 {
     match opcode {
         0x2B => {}
@@ -247,9 +249,9 @@ pub fn store(block: &mut [u8], opcode: usize, options: usize, data: &[u8])
 
 // 35h: mode 0 sets mode, columns and rows; mode 1 the lists too, and the shape that goes with them.
 fn store_shape(block: &mut [u8], data: &[u8])
-    requires { (length block.old ≡ blockSize)
-        × (length «data».now ≡ cond (eqb (byte_at «data».now 0) 1) (1 + listsSize) shapeHead) }
-    ensures { block.new ≡ writeShape «data».now block.old }
+    requires { (length block.old ≡ block_size)
+        × (length «data».now ≡ cond (eqb (byte_at «data».now 0) 1) (1 + lists_size) shape_head) }
+    ensures { block.new ≡ write_shape «data».now block.old }
 {
     if wire::byte(data, 0) == 1 {
         wire::put_byte(block, STAGED_SHAPE, 1);
@@ -263,8 +265,8 @@ fn store_shape(block: &mut [u8], data: &[u8])
 
 // 36h: 1 sets enable and copies the staged shape over the live one; 0 clears enable.
 fn store_apply(block: &mut [u8], data: &[u8])
-    requires { length block.old ≡ blockSize }
-    ensures { block.new ≡ applyBlock «data».now block.old }
+    requires { length block.old ≡ block_size }
+    ensures { block.new ≡ apply_block «data».now block.old }
 {
     if wire::byte(data, 0) == 1 {
         wire::put_byte(block, ENABLE, 1);
@@ -288,10 +290,10 @@ fn copy_within(block: &mut [u8], at: usize, from: usize, n: usize)
 
 // The data that a read of a setting returns, over the start of the buffer. Answers its size.
 pub fn fetch(out: &mut [u8], opcode: usize, options: usize, data: &[u8], block: &[u8]) -> usize
-    requires { (dataRoom ≤ length out.old) × (length block.now ≡ blockSize)
-        × (settingsRight block.now ≡ true) × (isRead options ≡ 1)
+    requires { (data_room ≤ length out.old) × (length block.now ≡ block_size)
+        × (settings_right block.now ≡ true) × (is_read options ≡ 1)
         × (first (judgement opcode options «data».now) ≡ 0) }
-    ensures { Overwrites result (blockBack opcode «data».now block.now)
+    ensures { Overwrites result (block_back opcode «data».now block.now)
         out.old out.new }
 {
     match opcode {
@@ -313,8 +315,8 @@ pub fn fetch(out: &mut [u8], opcode: usize, options: usize, data: &[u8], block: 
 
 // 35h: in mode 0 mode, columns and rows; in mode 1 the mode and the lists.
 fn fetch_shape(out: &mut [u8], block: &[u8]) -> usize
-    requires { (dataRoom ≤ length out.old) × (length block.now ≡ blockSize) }
-    ensures { Overwrites result (readShape block.now) out.old out.new }
+    requires { (data_room ≤ length out.old) × (length block.now ≡ block_size) }
+    ensures { Overwrites result (read_shape block.now) out.old out.new }
 {
     if wire::byte(block, STAGED_SHAPE) == 1 {
         wire::put_byte(out, 0, 1);

@@ -2,9 +2,9 @@
 ghost use Rattle.std.specs.Prelude.{◌≡◌, [], ◌∷◌, ◌<◌, ◌&&◌, eqb, length};
 ghost use Rattle.wire.specs.Numbers.{byte_at};
 ghost use Rattle.std.proofs.Math.Seq.{paste};
-ghost use Rattle.wire.specs.Tables.{longBytes};
-ghost use Rattle.settings.specs.Layout.{blockSize, markPlace, markSize};
-ghost use Rattle.front_end.specs.Mark.{markAt};
+ghost use Rattle.wire.specs.Tables.{long_bytes};
+ghost use Rattle.settings.specs.Layout.{block_size, mark_place, mark_size};
+ghost use Rattle.front_end.specs.Mark.{mark_at};
 ghost use Rattle.front_end.specs.Demands.{RowsPromised};
 ghost use Rattle.front_end.specs.Internal.{MarkGranted, RowsNamed, RowsFresh};
 
@@ -72,15 +72,15 @@ fn touched(data: &[u8], block: &[u8]) -> Fresh
 
 // The mark as it lies, low byte first.
 fn read(block: &[u8]) -> u32
-    ensures { result ≡ markAt block.now }
+    ensures { result ≡ mark_at block.now }
 {
     wire::long(block, ROW_MARK) as u32
 }
 
 // Another mark in its place.
 pub fn put(block: &mut [u8], mark: u32)
-    requires { length block.old ≡ blockSize }
-    ensures { block.new ≡ paste block.old markPlace (longBytes (mark ∷ [])) markSize }
+    requires { length block.old ≡ block_size }
+    ensures { block.new ≡ paste block.old mark_place (long_bytes (mark ∷ [])) mark_size }
 {
     wire::put_word(block, ROW_MARK, mark as usize % 65536);
     wire::put_word(block, ROW_MARK_HIGH, mark as usize / 65536);

@@ -12,7 +12,7 @@ use Rattle.tables.proofs.Bytes.{bytes-words}
 use Rattle.front_end.specs.State.{State, ResetOut}
 use Rattle.front_end.specs.Step.{Out}
 use Rattle.front_end.proofs.Determined.{step-determined, reset-determined}
-use Rattle.front_end_bytes.specs.Bytes.{Lent, stateIn, byteLengthsRight, LentOut, numbersOut, LentReset}
+use Rattle.front_end_bytes.specs.Bytes.{Lent, state_in, byte_lengths_right, LentOut, numbers_out, LentReset}
 use Rattle.front_end_bytes.specs.Plain.{BytesLent, AllBytes, StepBytesPlain, ResetBytesPlain, Pinned}
 use Rattle.front_end_bytes.proofs.Ways.{sized}
 use Rattle.front_end_bytes.proofs.Promises.{wrong}
@@ -30,7 +30,7 @@ pinned =
 pub same-words : (a b : List ℕ) (n : ℕ) → length a ≡ 2 * n → length b ≡ 2 * n → Bytes a → Bytes b → words a ≡ words b → a ≡ b
 same-words a b n la lb ha hb e = sym (bytes-words a (omega arith) ha) ∙ ap bytes e ∙ bytes-words b (omega arith) hb
 
-same-lent : {l k : Lent} → BytesLent l → BytesLent k → AllBytes l → AllBytes k → stateIn l ≡ stateIn k → l ≡ k
+same-lent : {l k : Lent} → BytesLent l → BytesLent k → AllBytes l → AllBytes k → state_in l ≡ state_in k → l ≡ k
 same-lent {l} {k} x y s t e =
     joined (ap (λ (u : State). u.block) e)
     (same-words l.staged k.staged 3968 x.staged y.staged s.staged t.staged (ap (λ (u : State). u.staged) e))
@@ -42,9 +42,9 @@ same-lent {l} {k} x y s t e =
     joined b t l g = cc
 
 lent-or : (l : Lent) {P : Type 0} → (BytesLent l → P) → ((BytesLent l → ⊥) → P) → P
-lent-or l {P} right not_right = go (byteLengthsRight l) refl
+lent-or l {P} right not_right = go (byte_lengths_right l) refl
   where
-    go : (b : Bool) → byteLengthsRight l ≡ b → P
+    go : (b : Bool) → byte_lengths_right l ≡ b → P
     go true e = right (sized l e)
     go false e = not_right (wrong l e)
 
@@ -53,7 +53,7 @@ pub step-determined-bytes : (p : List ℕ) → Bytes p → (l : Lent) (reply : L
 step-determined-bytes p bytes l reply o q small few f g =
     lent-or l
     (λ z.
-    let e = step-determined p bytes (stateIn l) reply (numbersOut o) (numbersOut q) (λ k h. small.block (865 + k)) (λ k h. few.block (865 + k)) (f.numbers z) (g.numbers z) in
+    let e = step-determined p bytes (state_in l) reply (numbers_out o) (numbers_out q) (λ k h. small.block (865 + k)) (λ k h. few.block (865 + k)) (f.numbers z) (g.numbers z) in
     same (ap (λ (u : Out). u.status) e) (ap (λ (u : Out). u.fault-place) e) (ap (λ (u : Out). u.size) e)
     (same-lent (f.long z) (g.long z) small few (ap (λ (u : Out). u.state) e)) (ap (λ (u : Out). u.reply) e))
     (λ none.
@@ -70,7 +70,7 @@ pub reset-determined-bytes : (l : Lent) (o q : LentReset) → AllBytes o.lent �
 reset-determined-bytes l o q small few f g =
     lent-or l
     (λ z.
-    let e = reset-determined (stateIn l) (record { status = o.status; state = stateIn o.lent }) (record { status = q.status; state = stateIn q.lent }) (f.numbers z) (g.numbers z) in
+    let e = reset-determined (state_in l) (record { status = o.status; state = state_in o.lent }) (record { status = q.status; state = state_in q.lent }) (f.numbers z) (g.numbers z) in
     same (ap (λ (u : ResetOut). u.status) e) (same-lent (f.long z) (g.long z) small few (ap (λ (u : ResetOut). u.state) e)))
     (λ none.
     let x = f.wrong-length none in

@@ -8,20 +8,20 @@ use native.Mathlib.Omega.{arith}
 use lib.ListN.{get_or}
 use Rattle.wire.proofs.Tables.{length-halves}
 use Rattle.tables.proofs.Bytes.{words-bytes}
-use Rattle.front_end.specs.State.{State, resetState, resetOut, reset}
+use Rattle.front_end.specs.State.{State, reset_state, reset_out, reset}
 use Rattle.front_end.specs.Step.{step}
 use Rattle.front_end.specs.Plain.{StateLent}
 use Rattle.front_end.specs.Demands.{Handled, Resets}
 use Rattle.front_end.proofs.Handled.{handled}
 use Rattle.front_end.proofs.Plain.{lengths-kept}
 use Rattle.front_end.proofs.Demands.{state-lent, resets}
-use Rattle.front_end_bytes.specs.Bytes.{Lent, stateIn, lent_of, byteLengthsRight, LentOut, outBytes, stepBytes, LentReset, resetBytes}
+use Rattle.front_end_bytes.specs.Bytes.{Lent, state_in, lent_of, byte_lengths_right, LentOut, out_bytes, step_bytes, LentReset, reset_bytes}
 use Rattle.front_end_bytes.specs.Plain.{BytesLent}
 use Rattle.front_end_bytes.specs.Promises.{HandledBytes, ResetsBytes}
 use Rattle.front_end_bytes.proofs.Ways.{Small, sized, right-sized, wide-lengths, unchanged}
 
 -- Numbers as bytes, read as numbers again.
-again : (s : State) → stateIn (lent_of s) ≡ s
+again : (s : State) → state_in (lent_of s) ≡ s
 again s = rw (words-bytes s.staged, words-bytes s.live, words-bytes s.gains)
 
 -- A state lent as its bytes: the lengths are right, and the packet does there what it does on the numbers.
@@ -34,27 +34,27 @@ lent-bytes s z =
       gains = length-halves 256 s.gains ∙ omega (arith, z.gains);
     }
 
-pub step-bytes : (p : List ℕ) (s : State) (reply : List ℕ) → StateLent s → stepBytes p (lent_of s) reply ≡ outBytes (step p s reply)
-unfolding stepBytes
+pub step-bytes : (p : List ℕ) (s : State) (reply : List ℕ) → StateLent s → step_bytes p (lent_of s) reply ≡ out_bytes (step p s reply)
+unfolding step_bytes
 step-bytes p s reply z = rw (right-sized (lent_of s) (lent-bytes s z), again s)
 
 -- Lent lengths that are right are right in numbers.
-pub wide-lent : (l : Lent) → BytesLent l → StateLent (stateIn l)
-wide-lent l z = (state-lent (stateIn l)).0 (wide-lengths l z)
+pub wide-lent : (l : Lent) → BytesLent l → StateLent (state_in l)
+wide-lent l z = (state-lent (state_in l)).0 (wide-lengths l z)
 
 -- Lengths that the test refuses are not right.
-pub wrong : (l : Lent) → byteLengthsRight l ≡ false → BytesLent l → ⊥
+pub wrong : (l : Lent) → byte_lengths_right l ≡ false → BytesLent l → ⊥
 wrong l e z = true≢false (sym (right-sized l z) ∙ e)
 
-pub handled-bytes : (p : List ℕ) → ((k : ℕ) → get_or p k 0 < 256) → (l : Lent) → Small l → (reply : List ℕ) {o : LentOut} → o ≡ stepBytes p l reply
+pub handled-bytes : (p : List ℕ) → ((k : ℕ) → get_or p k 0 < 256) → (l : Lent) → Small l → (reply : List ℕ) {o : LentOut} → o ≡ step_bytes p l reply
     → HandledBytes p l reply o
-unfolding stepBytes
-handled-bytes p bytes l small reply {o} same = go (byteLengthsRight l) refl
+unfolding step_bytes
+handled-bytes p bytes l small reply {o} same = go (byte_lengths_right l) refl
   where
-    wide : Handled p (stateIn l) reply (step p (stateIn l) reply)
-    wide = handled p bytes (stateIn l) reply refl
+    wide : Handled p (state_in l) reply (step p (state_in l) reply)
+    wide = handled p bytes (state_in l) reply refl
 
-    go : (b : Bool) → byteLengthsRight l ≡ b → HandledBytes p l reply o
+    go : (b : Bool) → byte_lengths_right l ≡ b → HandledBytes p l reply o
     go true e =
         rw (same, e)
         (record {
@@ -62,13 +62,13 @@ handled-bytes p bytes l small reply {o} same = go (byteLengthsRight l) refl
           plain =
               record {
                 wrong-length = λ none. absurd (none (sized l e));
-                long = λ z. lent-bytes _ (lengths-kept p bytes (stateIn l) reply (wide-lent l (sized l e)));
-                numbers = λ z. rw (again (step p (stateIn l) reply).state) wide.plain;
+                long = λ z. lent-bytes _ (lengths-kept p bytes (state_in l) reply (wide-lent l (sized l e)));
+                numbers = λ z. rw (again (step p (state_in l) reply).state) wide.plain;
               };
           unchanged = λ h. ap lent_of (wide.plain.unchanged (λ z. absurd (h z))) ∙ sym (unchanged l e small);
           behind = wide.behind;
           exactly = (λ z. (sized l e, wide.exactly.0 z), λ a. wide.exactly.1 a.1);
-          numbers = λ z. rw (again (step p (stateIn l) reply).state) wide;
+          numbers = λ z. rw (again (step p (state_in l) reply).state) wide;
         })
     go false e =
         rw (same, e)
@@ -86,14 +86,14 @@ handled-bytes p bytes l small reply {o} same = go (byteLengthsRight l) refl
           numbers = λ z. absurd (wrong l e z);
         })
 
-pub resets-bytes : (l : Lent) {o : LentReset} → o ≡ resetBytes l → ResetsBytes l o
-unfolding resetBytes reset
-resets-bytes l {o} same = go (byteLengthsRight l) refl
+pub resets-bytes : (l : Lent) {o : LentReset} → o ≡ reset_bytes l → ResetsBytes l o
+unfolding reset_bytes reset
+resets-bytes l {o} same = go (byte_lengths_right l) refl
   where
-    wide : BytesLent l → Resets (stateIn l) (resetOut 0 (stateIn (lent_of resetState)))
-    wide z = resets (stateIn l) (rw (wide-lengths l z) (ap (resetOut 0) (again resetState)))
+    wide : BytesLent l → Resets (state_in l) (reset_out 0 (state_in (lent_of reset_state)))
+    wide z = resets (state_in l) (rw (wide-lengths l z) (ap (reset_out 0) (again reset_state)))
 
-    go : (b : Bool) → byteLengthsRight l ≡ b → ResetsBytes l o
+    go : (b : Bool) → byte_lengths_right l ≡ b → ResetsBytes l o
     go true e =
         rw (same, e)
         (record {
@@ -101,7 +101,7 @@ resets-bytes l {o} same = go (byteLengthsRight l) refl
           plain =
               record {
                 wrong-length = λ none. absurd (none (sized l e));
-                long = λ z. lent-bytes resetState (subst StateLent (again resetState) ((wide z).plain.long (wide-lent l z)));
+                long = λ z. lent-bytes reset_state (subst StateLent (again reset_state) ((wide z).plain.long (wide-lent l z)));
                 numbers = λ z. (wide z).plain;
               };
           exactly = (λ z. sized l e, λ z. refl);

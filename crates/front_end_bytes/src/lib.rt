@@ -1,19 +1,21 @@
 // The front end on tables lent as bytes, low byte first, where they lie: what the C entries stand on.
+#![tactic(auto)]
+
 ghost use Rattle.std.specs.Prelude.{◌≡◌, true, false, [], ◌+◌, ◌≤◌, length};
 ghost use Rattle.wire.specs.Buffers.{Overwrites};
 ghost use Rattle.wire.specs.Tables.{words, bytes};
-ghost use Rattle.packet.specs.Reading.{commandAt};
-ghost use Rattle.settings.specs.Layout.{blockSize};
-ghost use Rattle.settings.specs.Reset.{gainsSize};
-ghost use Rattle.front_end.specs.State.{replyRoom, dataRoom, «stopped» as stoppedBy};
-ghost use Rattle.front_end.specs.Commands.{stagedAfter, live_after, gainsAfter, written, readPoints, readGains, dataBack};
-ghost use Rattle.front_end.specs.Commands.{gainsSent, gainsInto};
-ghost use Rattle.front_end.specs.Mark.{markedBlock, writtenMarked};
-ghost use Rattle.front_end.specs.Step.{decision, readReply};
+ghost use Rattle.packet.specs.Reading.{command_at};
+ghost use Rattle.settings.specs.Layout.{block_size};
+ghost use Rattle.settings.specs.Reset.{gains_size};
+ghost use Rattle.front_end.specs.State.{reply_room, data_room, «stopped» as stoppedBy};
+ghost use Rattle.front_end.specs.Commands.{staged_after, live_after, gains_after, written, read_points, read_gains, data_back};
+ghost use Rattle.front_end.specs.Commands.{gains_sent, gains_into};
+ghost use Rattle.front_end.specs.Mark.{marked_block, written_marked};
+ghost use Rattle.front_end.specs.Step.{decision, read_reply};
 ghost use Rattle.front_end.specs.Internal.{PointsWrite, PointsRead, GainsWrite, GainsRead, ReadGranted, WriteGranted};
 ghost use Rattle.front_end.specs.Internal.{MarkGranted};
-ghost use Rattle.front_end_bytes.specs.Bytes.{mapBytes, gainsBytes, lent, stateIn, lent_of, byteLengthsRight, stoppedBytes};
-ghost use Rattle.front_end_bytes.specs.Bytes.{lentOut, stepBytes, lentReset};
+ghost use Rattle.front_end_bytes.specs.Bytes.{map_bytes, gains_bytes, lent, state_in, lent_of, byte_lengths_right, stopped_bytes};
+ghost use Rattle.front_end_bytes.specs.Bytes.{lent_out, step_bytes, lent_reset};
 ghost use Rattle.front_end_bytes.specs.Promises.{HandledBytes, ResetsBytes};
 
 use front_end::{COLOUR_GAINS, GAINS_HEAD, GAINS_SIZE, MAP_SIZE, Outcome, POINTS_HEAD, REPLY_ROOM};
@@ -32,7 +34,7 @@ const GAIN: usize = front_end::GAIN_ONE as usize;
 pub fn reset(block: &mut [u8], staged: &mut [u8], live: &mut [u8], gains: &mut [u8]) -> u8
     ensures { ResetsBytes
         (lent block.old staged.old live.old gains.old)
-        (lentReset result (lent block.new staged.new live.new gains.new)) }
+        (lent_reset result (lent block.new staged.new live.new gains.new)) }
 {
     if !lengths_right(block, staged, live, gains) {
         return 1;
@@ -47,7 +49,7 @@ pub fn reset(block: &mut [u8], staged: &mut [u8], live: &mut [u8], gains: &mut [
 // Whether each lent list has the length it must have.
 fn lengths_right(block: &[u8], staged: &[u8], live: &[u8], gains: &[u8]) -> bool
     ensures { result
-        ≡ byteLengthsRight (lent block.now staged.now live.now gains.now) }
+        ≡ byte_lengths_right (lent block.now staged.now live.now gains.now) }
 {
     if block.len() != BLOCK_SIZE {
         return false;
@@ -72,7 +74,7 @@ pub fn handle(
 ) -> Outcome
     ensures { HandledBytes packet.now
         (lent block.old staged.old live.old gains.old) reply.old
-        (lentOut result.why.number result.why.place result.size
+        (lent_out result.why.number result.why.place result.size
         (lent block.new staged.new live.new gains.new) reply.new) }
 {
     if stopped(block, staged, live, gains, reply) {
@@ -93,11 +95,11 @@ fn decided(
     gains: &mut [u8],
     reply: &mut [u8],
 ) -> Outcome
-    requires { (byteLengthsRight (lent block.old staged.old live.old gains.old) ≡ true)
-        × (stoppedBy (stateIn (lent block.old staged.old live.old gains.old)) reply.old ≡ false) }
-    ensures { lentOut result.why.number result.why.place result.size
+    requires { (byte_lengths_right (lent block.old staged.old live.old gains.old) ≡ true)
+        × (stoppedBy (state_in (lent block.old staged.old live.old gains.old)) reply.old ≡ false) }
+    ensures { lent_out result.why.number result.why.place result.size
         (lent block.new staged.new live.new gains.new) reply.new
-        ≡ stepBytes packet.now
+        ≡ step_bytes packet.now
         (lent block.old staged.old live.old gains.old)
         reply.old }
 {
@@ -138,12 +140,12 @@ fn perform(
     gains: &mut [u8],
     reply: &mut [u8],
 ) -> Outcome
-    requires { (byteLengthsRight (lent block.old staged.old live.old gains.old) ≡ true)
-        × (stoppedBy (stateIn (lent block.old staged.old live.old gains.old)) reply.old ≡ false)
-        × (commandAt opcode options at size ≡ decision packet.now block.old) }
-    ensures { lentOut result.why.number result.why.place result.size
+    requires { (byte_lengths_right (lent block.old staged.old live.old gains.old) ≡ true)
+        × (stoppedBy (state_in (lent block.old staged.old live.old gains.old)) reply.old ≡ false)
+        × (command_at opcode options at size ≡ decision packet.now block.old) }
+    ensures { lent_out result.why.number result.why.place result.size
         (lent block.new staged.new live.new gains.new) reply.new
-        ≡ stepBytes packet.now
+        ≡ step_bytes packet.now
         (lent block.old staged.old live.old gains.old)
         reply.old }
 {
@@ -166,7 +168,7 @@ fn perform(
 // Refusal 1: lengths, and then every setting.
 fn stopped(block: &[u8], staged: &[u8], live: &[u8], gains: &[u8], reply: &[u8]) -> bool
     ensures { result
-        ≡ stoppedBytes
+        ≡ stopped_bytes
         (lent block.now staged.now live.now gains.now) reply.now }
 {
     if !lengths_right(block, staged, live, gains) {
@@ -189,10 +191,10 @@ fn answer_read(
     reply: &mut [u8],
 ) -> usize
     requires { ReadGranted 2 opcode options «data».now block.now staged.now gains.now
-        × (replyRoom ≤ length reply.old) }
+        × (reply_room ≤ length reply.old) }
     ensures { Overwrites result
-        (readReply opcode options «data».now
-        (stateIn (lent block.now staged.now [] gains.now)))
+        (read_reply opcode options «data».now
+        (state_in (lent block.now staged.now [] gains.now)))
         reply.old reply.new }
 {
     let n = fetch(&mut reply[3..], opcode, options, data, block, staged, gains);
@@ -210,10 +212,10 @@ fn fetch(
     gains: &[u8],
 ) -> usize
     requires { ReadGranted 2 opcode options «data».now block.now staged.now gains.now
-        × (dataRoom ≤ length out.old) }
+        × (data_room ≤ length out.old) }
     ensures { Overwrites result
-        (dataBack opcode «data».now
-        (stateIn (lent block.now staged.now [] gains.now)))
+        (data_back opcode «data».now
+        (state_in (lent block.now staged.now [] gains.now)))
         out.old out.new }
 {
     if opcode == 0x34 {
@@ -227,8 +229,8 @@ fn fetch(
 
 // 34h: the staged points that the packet names.
 fn fetch_points(out: &mut [u8], data: &[u8], staged: &[u8]) -> usize
-    requires { PointsRead «data».now × (length staged.now ≡ mapBytes) × (dataRoom ≤ length out.old) }
-    ensures { Overwrites result (readPoints «data».now (words staged.now))
+    requires { PointsRead «data».now × (length staged.now ≡ map_bytes) × (data_room ≤ length out.old) }
+    ensures { Overwrites result (read_points «data».now (words staged.now))
         out.old out.new }
 {
     let named = front_end::points_named(true, data);
@@ -238,8 +240,8 @@ fn fetch_points(out: &mut [u8], data: &[u8], staged: &[u8]) -> usize
 
 // 2Bh: the gains that the packet names.
 fn fetch_gains(out: &mut [u8], data: &[u8], gains: &[u8]) -> usize
-    requires { GainsRead «data».now × (length gains.now ≡ gainsBytes) × (dataRoom ≤ length out.old) }
-    ensures { Overwrites result (readGains «data».now (words gains.now))
+    requires { GainsRead «data».now × (length gains.now ≡ gains_bytes) × (data_room ≤ length out.old) }
+    ensures { Overwrites result (read_gains «data».now (words gains.now))
         out.old out.new }
 {
     let named = front_end::gains_named(true, data);
@@ -259,8 +261,8 @@ fn write(
 )
     requires { WriteGranted 2 opcode options «data».now block.old staged.old live.old gains.old }
     ensures { lent block.new staged.new live.new gains.new
-        ≡ lent_of (writtenMarked opcode «data».now
-        (stateIn (lent block.old staged.old live.old gains.old))) }
+        ≡ lent_of (written_marked opcode «data».now
+        (state_in (lent block.old staged.old live.old gains.old))) }
 {
     store(opcode, options, data, block, staged, live, gains);
     mark_rows(opcode, data, block, staged, live);
@@ -268,9 +270,9 @@ fn write(
 
 // The mark as the write leaves it: the rows that it works out, in both maps as they are now.
 fn mark_rows(opcode: usize, data: &[u8], block: &mut [u8], staged: &[u8], live: &[u8])
-    requires { MarkGranted opcode «data».now block.old × (length block.old ≡ blockSize)
-        × (length staged.now ≡ mapBytes) × (length live.now ≡ mapBytes) }
-    ensures { block.new ≡ markedBlock opcode «data».now block.old
+    requires { MarkGranted opcode «data».now block.old × (length block.old ≡ block_size)
+        × (length staged.now ≡ map_bytes) × (length live.now ≡ map_bytes) }
+    ensures { block.new ≡ marked_block opcode «data».now block.old
         (words staged.now) (words live.now) }
 {
     let fresh = front_end::mark::fresh_rows(opcode, data, block);
@@ -301,7 +303,7 @@ fn store(
     requires { WriteGranted 2 opcode options «data».now block.old staged.old live.old gains.old }
     ensures { lent block.new staged.new live.new gains.new
         ≡ lent_of (written opcode «data».now
-        (stateIn (lent block.old staged.old live.old gains.old))) }
+        (state_in (lent block.old staged.old live.old gains.old))) }
 {
     apply(opcode, data, staged, live);
     store_points(opcode, data, staged);
@@ -311,7 +313,7 @@ fn store(
 
 // 36h with 1: all staged points become live.
 fn apply(opcode: usize, data: &[u8], staged: &[u8], live: &mut [u8])
-    requires { (length staged.now ≡ mapBytes) × (length live.old ≡ mapBytes) }
+    requires { (length staged.now ≡ map_bytes) × (length live.old ≡ map_bytes) }
     ensures { live.new
         ≡ bytes (live_after opcode «data».now (words staged.now) (words live.old)) }
 {
@@ -326,8 +328,8 @@ fn apply(opcode: usize, data: &[u8], staged: &[u8], live: &mut [u8])
 
 // 34h: the points of the packet, from its start on.
 fn store_points(opcode: usize, data: &[u8], staged: &mut [u8])
-    requires { (opcode ≡ 0x34 → PointsWrite «data».now) × (length staged.old ≡ mapBytes) }
-    ensures { staged.new ≡ bytes (stagedAfter opcode «data».now
+    requires { (opcode ≡ 0x34 → PointsWrite «data».now) × (length staged.old ≡ map_bytes) }
+    ensures { staged.new ≡ bytes (staged_after opcode «data».now
         (words staged.old)) }
 {
     if opcode != 0x34 {
@@ -339,8 +341,8 @@ fn store_points(opcode: usize, data: &[u8], staged: &mut [u8])
 
 // 2Bh: the gains that the packet sends, into one third of the table or, for colour 0, into all three.
 fn store_gains(opcode: usize, data: &[u8], gains: &mut [u8])
-    requires { (opcode ≡ 0x2B → GainsWrite «data».now) × (length gains.old ≡ gainsBytes) }
-    ensures { gains.new ≡ bytes (gainsAfter opcode «data».now (words gains.old)) }
+    requires { (opcode ≡ 0x2B → GainsWrite «data».now) × (length gains.old ≡ gains_bytes) }
+    ensures { gains.new ≡ bytes (gains_after opcode «data».now (words gains.old)) }
 {
     if opcode != 0x2B {
         return;
@@ -356,10 +358,10 @@ fn store_gains(opcode: usize, data: &[u8], gains: &mut [u8])
 
 // 2Bh: the gains that the packet sends, from a place on: its words, or run by run what its pairs stand for.
 fn put_gains(data: &[u8], gains: &mut [u8], place: usize)
-    requires { GainsWrite «data».now × (length gains.old ≡ gainsBytes)
-        × (place + length (gainsSent «data».now) ≤ gainsSize) }
+    requires { GainsWrite «data».now × (length gains.old ≡ gains_bytes)
+        × (place + length (gains_sent «data».now) ≤ gains_size) }
     ensures { gains.new
-        ≡ bytes (gainsInto (words gains.old) place (gainsSent «data».now)) }
+        ≡ bytes (gains_into (words gains.old) place (gains_sent «data».now)) }
 {
     if opcode::in_pairs(data) {
         tables::runs_in_bytes(gains, place, data, GAINS_HEAD);

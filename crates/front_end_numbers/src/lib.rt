@@ -1,14 +1,16 @@
 // The front end on tables of 16-bit numbers, for Rattle callers.
+#![tactic(auto)]
+
 ghost use Rattle.std.specs.Prelude.{◌≡◌, false, [], ◌+◌, ◌≤◌, length};
 ghost use Rattle.wire.specs.Buffers.{Overwrites};
-ghost use Rattle.packet.specs.Reading.{commandAt};
-ghost use Rattle.settings.specs.Layout.{blockSize};
-ghost use Rattle.settings.specs.Reset.{mapSize, gainsSize};
-ghost use Rattle.front_end.specs.State.{replyRoom, dataRoom, state, resetOut, lengthsRight, «stopped» as stoppedBy};
-ghost use Rattle.front_end.specs.Commands.{stagedAfter, live_after, gainsAfter, written, readPoints, readGains, dataBack};
-ghost use Rattle.front_end.specs.Commands.{gainsSent, gainsInto};
-ghost use Rattle.front_end.specs.Mark.{markedBlock, writtenMarked};
-ghost use Rattle.front_end.specs.Step.{«out» as outcome, decision, readReply, step};
+ghost use Rattle.packet.specs.Reading.{command_at};
+ghost use Rattle.settings.specs.Layout.{block_size};
+ghost use Rattle.settings.specs.Reset.{map_size, gains_size};
+ghost use Rattle.front_end.specs.State.{reply_room, data_room, state, reset_out, «lengths_right», «stopped» as stoppedBy};
+ghost use Rattle.front_end.specs.Commands.{staged_after, live_after, gains_after, written, read_points, read_gains, data_back};
+ghost use Rattle.front_end.specs.Commands.{gains_sent, gains_into};
+ghost use Rattle.front_end.specs.Mark.{marked_block, written_marked};
+ghost use Rattle.front_end.specs.Step.{«out» as outcome, decision, read_reply, step};
 ghost use Rattle.front_end.specs.Demands.{Handled, Resets};
 ghost use Rattle.front_end.specs.Internal.{PointsWrite, PointsRead, GainsWrite, GainsRead, ReadGranted, WriteGranted};
 ghost use Rattle.front_end.specs.Internal.{MarkGranted};
@@ -23,7 +25,7 @@ use settings::layout::BLOCK_SIZE;
 // Puts the block and all tables as they are after reset. Answers 0, or 1 for a wrong length, when nothing is changed.
 pub fn reset(block: &mut [u8], staged: &mut [u16], live: &mut [u16], gains: &mut [u16]) -> u8
     ensures { Resets (state block.old staged.old live.old gains.old)
-        (resetOut result (state block.new staged.new live.new gains.new)) }
+        (reset_out result (state block.new staged.new live.new gains.new)) }
 {
     if !lengths_right(block, staged, live, gains) {
         return 1;
@@ -38,7 +40,7 @@ pub fn reset(block: &mut [u8], staged: &mut [u16], live: &mut [u16], gains: &mut
 // Whether each lent list has the length it must have.
 fn lengths_right(block: &[u8], staged: &[u16], live: &[u16], gains: &[u16]) -> bool
     ensures { result
-        ≡ lengthsRight (state block.now staged.now live.now gains.now) }
+        ≡ «lengths_right» (state block.now staged.now live.now gains.now) }
 {
     if block.len() != BLOCK_SIZE {
         return false;
@@ -129,7 +131,7 @@ fn perform(
     reply: &mut [u8],
 ) -> Outcome
     requires { (stoppedBy (state block.old staged.old live.old gains.old) reply.old ≡ false)
-        × (commandAt opcode options at size ≡ decision packet.now block.old) }
+        × (command_at opcode options at size ≡ decision packet.now block.old) }
     ensures { outcome result.why.number result.why.place result.size
         (state block.new staged.new live.new gains.new) reply.new
         ≡ step packet.now
@@ -178,9 +180,9 @@ fn answer_read(
     reply: &mut [u8],
 ) -> usize
     requires { ReadGranted 1 opcode options «data».now block.now staged.now gains.now
-        × (replyRoom ≤ length reply.old) }
+        × (reply_room ≤ length reply.old) }
     ensures { Overwrites result
-        (readReply opcode options «data».now
+        (read_reply opcode options «data».now
         (state block.now staged.now [] gains.now))
         reply.old reply.new }
 {
@@ -199,9 +201,9 @@ fn fetch(
     gains: &[u16],
 ) -> usize
     requires { ReadGranted 1 opcode options «data».now block.now staged.now gains.now
-        × (dataRoom ≤ length out.old) }
+        × (data_room ≤ length out.old) }
     ensures { Overwrites result
-        (dataBack opcode «data».now (state block.now staged.now [] gains.now))
+        (data_back opcode «data».now (state block.now staged.now [] gains.now))
         out.old out.new }
 {
     if opcode == 0x34 {
@@ -215,8 +217,8 @@ fn fetch(
 
 // 34h: the staged points that the packet names.
 fn fetch_points(out: &mut [u8], data: &[u8], staged: &[u16]) -> usize
-    requires { PointsRead «data».now × (length staged.now ≡ mapSize) × (dataRoom ≤ length out.old) }
-    ensures { Overwrites result (readPoints «data».now staged.now) out.old
+    requires { PointsRead «data».now × (length staged.now ≡ map_size) × (data_room ≤ length out.old) }
+    ensures { Overwrites result (read_points «data».now staged.now) out.old
         out.new }
 {
     let named = front_end::points_named(true, data);
@@ -226,8 +228,8 @@ fn fetch_points(out: &mut [u8], data: &[u8], staged: &[u16]) -> usize
 
 // 2Bh: the gains that the packet names.
 fn fetch_gains(out: &mut [u8], data: &[u8], gains: &[u16]) -> usize
-    requires { GainsRead «data».now × (length gains.now ≡ gainsSize) × (dataRoom ≤ length out.old) }
-    ensures { Overwrites result (readGains «data».now gains.now) out.old
+    requires { GainsRead «data».now × (length gains.now ≡ gains_size) × (data_room ≤ length out.old) }
+    ensures { Overwrites result (read_gains «data».now gains.now) out.old
         out.new }
 {
     let named = front_end::gains_named(true, data);
@@ -247,7 +249,7 @@ fn write(
 )
     requires { WriteGranted 1 opcode options «data».now block.old staged.old live.old gains.old }
     ensures { state block.new staged.new live.new gains.new
-        ≡ writtenMarked opcode «data».now
+        ≡ written_marked opcode «data».now
         (state block.old staged.old live.old gains.old) }
 {
     store(opcode, options, data, block, staged, live, gains);
@@ -256,9 +258,9 @@ fn write(
 
 // The mark as the write leaves it: the rows that it works out, in both maps as they are now.
 fn mark_rows(opcode: usize, data: &[u8], block: &mut [u8], staged: &[u16], live: &[u16])
-    requires { MarkGranted opcode «data».now block.old × (length block.old ≡ blockSize)
-        × (length staged.now ≡ mapSize) × (length live.now ≡ mapSize) }
-    ensures { block.new ≡ markedBlock opcode «data».now block.old staged.now
+    requires { MarkGranted opcode «data».now block.old × (length block.old ≡ block_size)
+        × (length staged.now ≡ map_size) × (length live.now ≡ map_size) }
+    ensures { block.new ≡ marked_block opcode «data».now block.old staged.now
         live.now }
 {
     let fresh = front_end::mark::fresh_rows(opcode, data, block);
@@ -314,8 +316,8 @@ fn apply(opcode: usize, data: &[u8], staged: &[u16], live: &mut [u16])
 
 // 34h: the points of the packet, from its start on.
 fn store_points(opcode: usize, data: &[u8], staged: &mut [u16])
-    requires { (opcode ≡ 0x34 → PointsWrite «data».now) × (length staged.old ≡ mapSize) }
-    ensures { staged.new ≡ stagedAfter opcode «data».now staged.old }
+    requires { (opcode ≡ 0x34 → PointsWrite «data».now) × (length staged.old ≡ map_size) }
+    ensures { staged.new ≡ staged_after opcode «data».now staged.old }
 {
     if opcode != 0x34 {
         return;
@@ -326,8 +328,8 @@ fn store_points(opcode: usize, data: &[u8], staged: &mut [u16])
 
 // 2Bh: the gains that the packet sends, into one third of the table or, for colour 0, into all three.
 fn store_gains(opcode: usize, data: &[u8], gains: &mut [u16])
-    requires { (opcode ≡ 0x2B → GainsWrite «data».now) × (length gains.old ≡ gainsSize) }
-    ensures { gains.new ≡ gainsAfter opcode «data».now gains.old }
+    requires { (opcode ≡ 0x2B → GainsWrite «data».now) × (length gains.old ≡ gains_size) }
+    ensures { gains.new ≡ gains_after opcode «data».now gains.old }
 {
     if opcode != 0x2B {
         return;
@@ -343,8 +345,8 @@ fn store_gains(opcode: usize, data: &[u8], gains: &mut [u16])
 
 // 2Bh: the gains that the packet sends, from a place on: its words, or run by run what its pairs stand for.
 fn put_gains(data: &[u8], gains: &mut [u16], place: usize)
-    requires { GainsWrite «data».now × (place + length (gainsSent «data».now) ≤ length gains.old) }
-    ensures { gains.new ≡ gainsInto gains.old place (gainsSent «data».now) }
+    requires { GainsWrite «data».now × (place + length (gains_sent «data».now) ≤ length gains.old) }
+    ensures { gains.new ≡ gains_into gains.old place (gains_sent «data».now) }
 {
     if opcode::in_pairs(data) {
         tables::runs_in(gains, place, data, GAINS_HEAD);

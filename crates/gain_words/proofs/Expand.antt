@@ -4,11 +4,11 @@ use mathlib.Core.Path.{◌≡◌, refl}
 use mathlib.Core.List.{List, [], ◌∷◌, ◌++◌, append_assoc}
 use native.Mathlib.Omega.{arith}
 use lib.ListN.{length, length-append, length-replicate}
-use Rattle.gain_words.specs.Pairs.{expand, sumRuns}
+use Rattle.gain_words.specs.Pairs.{expand, sum_runs}
 use Rattle.gain_words.specs.Plain.{Pairs, none, pair}
 
-pub length-expand : (ws : List ℕ) → length (expand ws) ≡ sumRuns ws
-unfolding expand sumRuns
+pub length-expand : (ws : List ℕ) → length (expand ws) ≡ sum_runs ws
+unfolding expand sum_runs
 length-expand [] = refl
 length-expand (run ∷ []) = refl
 length-expand (run ∷ gain ∷ rest) = rw (length-append, length-replicate, length-expand rest)
@@ -19,8 +19,8 @@ expand-append [] ws e = refl
 expand-append (run ∷ []) ws e = absurd (omega arith)
 expand-append (run ∷ gain ∷ rest) ws e = rw (expand-append rest ws (omega arith), append_assoc)
 
-pub sum-append : (vs ws : List ℕ) → length vs % 2 ≡ 0 → sumRuns (vs ++ ws) ≡ sumRuns vs + sumRuns ws
-unfolding sumRuns
+pub sum-append : (vs ws : List ℕ) → length vs % 2 ≡ 0 → sum_runs (vs ++ ws) ≡ sum_runs vs + sum_runs ws
+unfolding sum_runs
 sum-append [] ws e = omega arith
 sum-append (run ∷ []) ws e = absurd (omega arith)
 sum-append (run ∷ gain ∷ rest) ws e = omega (arith, sum-append rest ws (omega arith))

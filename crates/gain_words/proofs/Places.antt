@@ -6,8 +6,8 @@ use native.Mathlib.Decide.{dec_le}
 use native.Mathlib.Omega.{arith}
 use borrow.Author.Tests.{le-leb, lt-leb}
 use lib.ListN.{length, get_or}
-use Rattle.gain_words.specs.Gains.{mostGain, firstLarge}
-use Rattle.gain_words.specs.Pairs.{colourGains, pairFault}
+use Rattle.gain_words.specs.Gains.{most_gain, first_large}
+use Rattle.gain_words.specs.Pairs.{colour_gains, pair_fault}
 
 -- Of so many, n is the index of the first that is wrong; of any search along a list, an element at a time.
 pub record FirstWrong (Right : ℕ → Type 0) (long n : ℕ) : Type 0 where
@@ -32,48 +32,48 @@ abbrev pub Ranged : (ℕ → ℕ × ℕ) → List ℕ → ℕ → Type 0
 Ranged range ws i = ((range i).0 ≤ get_or ws i 0) × (get_or ws i 0 ≤ (range i).1)
 
 -- Gains have one range. In pairs a run has an even index, and a gain an odd one.
-abbrev pub gainRange : ℕ → ℕ × ℕ
-gainRange i = (0, 8191)
+abbrev pub gain_range : ℕ → ℕ × ℕ
+gain_range i = (0, 8191)
 
-abbrev pub pairRange : ℕ → ℕ × ℕ
-pairRange zero = (1, 2016)
-pairRange (suc zero) = (0, 8191)
-pairRange (suc (suc i)) = pairRange i
+abbrev pub pair_range : ℕ → ℕ × ℕ
+pair_range zero = (1, 2016)
+pair_range (suc zero) = (0, 8191)
+pair_range (suc (suc i)) = pair_range i
 
-pub run-range : (k : ℕ) → pairRange (2 * k) ≡ (1, 2016)
+pub run-range : (k : ℕ) → pair_range (2 * k) ≡ (1, 2016)
 run-range zero = refl
 run-range (suc k) = let e : 2 * suc k ≡ suc (suc (2 * k)) = omega arith in rw e (run-range k)
 
-pub gain-range : (k : ℕ) → pairRange (2 * k + 1) ≡ (0, 8191)
+pub gain-range : (k : ℕ) → pair_range (2 * k + 1) ≡ (0, 8191)
 gain-range zero = refl
 gain-range (suc k) = let e : 2 * suc k + 1 ≡ suc (suc (2 * k + 1)) = omega arith in rw e (gain-range k)
 
-pub gains-first : (ws : List ℕ) → FirstWrong (Ranged gainRange ws) (length ws) (firstLarge ws)
-unfolding firstLarge
+pub gains-first : (ws : List ℕ) → FirstWrong (Ranged gain_range ws) (length ws) (first_large ws)
+unfolding first_large
 gains-first [] = wrong-none
 gains-first (w ∷ ws) =
-    elim (dec_le w mostGain) [
-      | yes l ↦ rw (le-leb w mostGain l) (wrong-past (omega arith) (gains-first ws))
-      | no l ↦ rw (lt-leb w mostGain (omega arith)) (wrong-here (λ r. omega arith))
+    elim (dec_le w most_gain) [
+      | yes l ↦ rw (le-leb w most_gain l) (wrong-past (omega arith) (gains-first ws))
+      | no l ↦ rw (lt-leb w most_gain (omega arith)) (wrong-here (λ r. omega arith))
     ]
 
-pub pairs_first : (ws : List ℕ) → length ws % 2 ≡ 0 → FirstWrong (Ranged pairRange ws) (length ws) (pairFault ws)
-unfolding pairFault
+pub pairs_first : (ws : List ℕ) → length ws % 2 ≡ 0 → FirstWrong (Ranged pair_range ws) (length ws) (pair_fault ws)
+unfolding pair_fault
 pairs_first [] e = wrong-none
 pairs_first (run ∷ []) e = absurd (omega arith)
 pairs_first (run ∷ gain ∷ rest) e =
     elim (dec_le 1 run) [
       | no h ↦ rw (lt-leb 1 run (omega arith)) (wrong-here (λ r. omega arith))
       | yes h ↦
-          elim (dec_le run colourGains) [
-            | no k ↦ rw (le-leb 1 run h, lt-leb run colourGains (omega arith)) (wrong-here (λ r. omega arith))
+          elim (dec_le run colour_gains) [
+            | no k ↦ rw (le-leb 1 run h, lt-leb run colour_gains (omega arith)) (wrong-here (λ r. omega arith))
             | yes k ↦
-                elim (dec_le gain mostGain) [
+                elim (dec_le gain most_gain) [
                   | no l ↦
-                      rw (le-leb 1 run h, le-leb run colourGains k, lt-leb gain mostGain (omega arith))
+                      rw (le-leb 1 run h, le-leb run colour_gains k, lt-leb gain most_gain (omega arith))
                       (wrong-past (h, k) (wrong-here (λ r. omega arith)))
                   | yes l ↦
-                      rw (le-leb 1 run h, le-leb run colourGains k, le-leb gain mostGain l)
+                      rw (le-leb 1 run h, le-leb run colour_gains k, le-leb gain most_gain l)
                       (wrong-past (h, k) (wrong-past (omega arith) (pairs_first rest (omega arith))))
                 ]
           ]

@@ -1,10 +1,10 @@
 -- What names mean, by unfolding them.
 use mathlib.Core.Path.{refl}
-use Rattle.gain_words.specs.Pairs.{expand, sumRuns}
+use Rattle.gain_words.specs.Pairs.{expand, sum_runs}
 use Rattle.gain_words.specs.Plain.{Pinned}
 
 pub pinned : Pinned
-unfolding expand sumRuns
+unfolding expand sum_runs
 pinned =
     record {
       expand-0 = refl;

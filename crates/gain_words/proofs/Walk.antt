@@ -11,33 +11,33 @@ use lib.Seq.{drop-cons}
 use Rattle.wire.specs.Numbers.{byte_at, word_at}
 use Rattle.wire.specs.Tables.{words}
 use Rattle.wire.proofs.Tables.{length_pairs, number_at}
-use Rattle.gain_words.specs.Gains.{firstLarge}
-use Rattle.gain_words.specs.Pairs.{sumRuns, pairFault, runWrong}
+use Rattle.gain_words.specs.Gains.{first_large}
+use Rattle.gain_words.specs.Pairs.{sum_runs, pair_fault, run_wrong}
 
 -- What a list of one word, or of none, gives.
-alone-fault : (ws : List ℕ) → length ws ≤ 1 → pairFault ws ≡ 0
-unfolding pairFault
+alone-fault : (ws : List ℕ) → length ws ≤ 1 → pair_fault ws ≡ 0
+unfolding pair_fault
 alone-fault [] h = refl
 alone-fault (w ∷ []) h = refl
 alone-fault (w ∷ v ∷ ws) h = absurd (omega arith)
 
-alone-sum : (ws : List ℕ) → length ws ≤ 1 → sumRuns ws ≡ 0
-unfolding sumRuns
+alone-sum : (ws : List ℕ) → length ws ≤ 1 → sum_runs ws ≡ 0
+unfolding sum_runs
 alone-sum [] h = refl
 alone-sum (w ∷ []) h = refl
 alone-sum (w ∷ v ∷ ws) h = absurd (omega arith)
 
 module _ (ws : List ℕ) (i : ℕ) where
-  pub large-turn : i < length ws → get_or ws i 0 ≤ 8191 → firstLarge (drop i ws) ≡ suc (firstLarge (drop (i + 1) ws))
-  unfolding firstLarge
+  pub large-turn : i < length ws → get_or ws i 0 ≤ 8191 → first_large (drop i ws) ≡ suc (first_large (drop (i + 1) ws))
+  unfolding first_large
   large-turn h w = rw (drop-cons ws i 0 h, le-leb _ _ w, add-one i)
 
-  pub large-stop : i < length ws → 8191 < get_or ws i 0 → firstLarge (drop i ws) ≡ 0
-  unfolding firstLarge
+  pub large-stop : i < length ws → 8191 < get_or ws i 0 → first_large (drop i ws) ≡ 0
+  unfolding first_large
   large-stop h w = rw (drop-cons ws i 0 h, lt-leb _ _ w)
 
-  pub large-done : length ws ≤ i → firstLarge (drop i ws) ≡ 0
-  unfolding firstLarge
+  pub large-done : length ws ≤ i → first_large (drop i ws) ≡ 0
+  unfolding first_large
   large-done h = rw (drop_of_length-le ws {i = i} h)
 
   -- A pair, and the words behind it.
@@ -47,28 +47,28 @@ module _ (ws : List ℕ) (i : ℕ) where
 
     -- Its run and its gain, as the code has them.
     module _ {run gain : ℕ} (r : run ≡ get_or ws i 0) (g : gain ≡ get_or ws (i + 1) 0) where
-      pub fault-gain : runWrong run ≡ false → 8191 < gain → pairFault (drop i ws) ≡ 1
-      unfolding pairFault
+      pub fault-gain : run_wrong run ≡ false → 8191 < gain → pair_fault (drop i ws) ≡ 1
+      unfolding pair_fault
       fault-gain e w = rw (pair_turn, ← r, ← g, e, lt-leb _ _ w)
 
-      pub fault-turn : runWrong run ≡ false → gain ≤ 8191 → pairFault (drop i ws) ≡ suc (suc (pairFault (drop (i + 2) ws)))
-      unfolding pairFault
+      pub fault-turn : run_wrong run ≡ false → gain ≤ 8191 → pair_fault (drop i ws) ≡ suc (suc (pair_fault (drop (i + 2) ws)))
+      unfolding pair_fault
       fault-turn e w = rw (pair_turn, ← r, ← g, e, le-leb _ _ w)
 
-    pub fault-run : {run : ℕ} → run ≡ get_or ws i 0 → runWrong run ≡ true → pairFault (drop i ws) ≡ 0
-    unfolding pairFault
+    pub fault-run : {run : ℕ} → run ≡ get_or ws i 0 → run_wrong run ≡ true → pair_fault (drop i ws) ≡ 0
+    unfolding pair_fault
     fault-run r e = rw (pair_turn, ← r, e)
 
-    pub sum-turn : sumRuns (drop i ws) ≡ get_or ws i 0 + sumRuns (drop (i + 2) ws)
-    unfolding sumRuns
+    pub sum-turn : sum_runs (drop i ws) ≡ get_or ws i 0 + sum_runs (drop (i + 2) ws)
+    unfolding sum_runs
     sum-turn = rw pair_turn
 
   -- The end: no pair is left.
   module _ (h : length ws ≤ i + 1) where
-    pub fault-done : pairFault (drop i ws) ≡ 0
+    pub fault-done : pair_fault (drop i ws) ≡ 0
     fault-done = alone-fault (drop i ws) (rw length-drop (omega arith))
 
-    pub sum_done : sumRuns (drop i ws) ≡ 0
+    pub sum_done : sum_runs (drop i ws) ≡ 0
     sum_done = alone-sum (drop i ws) (rw length-drop (omega arith))
 
 -- Words as bytes from a place on: how many they are.

@@ -2,10 +2,10 @@
 use Rattle.std.specs.Prelude.{ℕ, suc, cond, List, [], ◌∷◌, leb}
 
 -- Rule 5.8: the highest gain.
-abbrev pub mostGain : ℕ
-mostGain = 8191
+abbrev pub most_gain : ℕ
+most_gain = 8191
 
 -- Rule 5.8: the index of the first gain above the highest, the list's length for none.
-unfoldable pub firstLarge : List ℕ → ℕ
-firstLarge [] = 0
-firstLarge (w ∷ ws) = cond (leb w mostGain) (suc (firstLarge ws)) 0
+unfoldable pub first_large : List ℕ → ℕ
+first_large [] = 0
+first_large (w ∷ ws) = cond (leb w most_gain) (suc (first_large ws)) 0

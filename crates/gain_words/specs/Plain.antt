@@ -1,7 +1,7 @@
 -- Rule 5.11: what pairs may be, what they stand for and what their runs add up to, with the numbers
 -- themselves.
 use Rattle.std.specs.Prelude.{ℕ, ◌+◌, ◌≤◌, ◌≡◌, List, [], ◌∷◌, ◌++◌, replicate}
-use Rattle.gain_words.specs.Pairs.{expand, sumRuns}
+use Rattle.gain_words.specs.Pairs.{expand, sum_runs}
 
 -- Rule 5.11: what pairs may be: each run 1 to 2,016, each gain at most 8,191.
 pub data Pairs : List ℕ → Type 0 where
@@ -13,6 +13,6 @@ pub record Pinned : Type 0 where
   pub expand-0 : expand [] ≡ []
   pub expand-1 : (run : ℕ) → expand (run ∷ []) ≡ []
   pub expand-2 : (run gain : ℕ) (rest : List ℕ) → expand (run ∷ gain ∷ rest) ≡ replicate run gain ++ expand rest
-  pub runs-0 : sumRuns [] ≡ 0
-  pub runs-1 : (run : ℕ) → sumRuns (run ∷ []) ≡ 0
-  pub runs-2 : (run gain : ℕ) (rest : List ℕ) → sumRuns (run ∷ gain ∷ rest) ≡ run + sumRuns rest
+  pub runs-0 : sum_runs [] ≡ 0
+  pub runs-1 : (run : ℕ) → sum_runs (run ∷ []) ≡ 0
+  pub runs-2 : (run gain : ℕ) (rest : List ℕ) → sum_runs (run ∷ gain ∷ rest) ≡ run + sum_runs rest

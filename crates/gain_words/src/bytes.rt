@@ -1,15 +1,15 @@
 // Words as their bytes, low byte first, from a place on to the end.
 ghost use Rattle.std.specs.Prelude.{◌≡◌, ◌≤◌, drop};
 ghost use Rattle.wire.specs.Tables.{words};
-ghost use Rattle.gain_words.specs.Gains.{firstLarge};
-ghost use Rattle.gain_words.specs.Pairs.{pairFault, runsBeyond};
+ghost use Rattle.gain_words.specs.Gains.{«first_large»};
+ghost use Rattle.gain_words.specs.Pairs.{«pair_fault», runs_beyond};
 
 use super::{COLOUR_GAINS, MOST_GAIN};
 
 // The index of the first gain that is above the highest, the number of gains for none.
 pub fn first_large(s: &[u8], at: usize) -> usize
     requires { at ≤ 65536 }
-    ensures { result ≡ firstLarge (words (drop at s.now)) }
+    ensures { result ≡ «first_large» (words (drop at s.now)) }
 {
     let mut i = 0;
     while at + 2 * i + 1 < s.len() {
@@ -25,7 +25,7 @@ pub fn first_large(s: &[u8], at: usize) -> usize
 // The index of the first word at fault, a pair's run before its gain; the number of words in pairs for none.
 pub fn pair_fault(s: &[u8], at: usize) -> usize
     requires { at ≤ 65536 }
-    ensures { result ≡ pairFault (words (drop at s.now)) }
+    ensures { result ≡ «pair_fault» (words (drop at s.now)) }
 {
     let mut i = 0;
     while at + 2 * i + 3 < s.len() {
@@ -45,7 +45,7 @@ pub fn pair_fault(s: &[u8], at: usize) -> usize
 // Whether the runs of pairs, from a start on, go past a colour's gains. It stops as soon as they do, so that no sum wraps.
 pub fn runs_past(start: usize, s: &[u8], at: usize) -> bool
     requires { at ≤ 65536 }
-    ensures { result ≡ runsBeyond start (words (drop at s.now)) }
+    ensures { result ≡ runs_beyond start (words (drop at s.now)) }
 {
     let mut end = start;
     let mut i = 0;

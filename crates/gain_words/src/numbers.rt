@@ -1,12 +1,12 @@
 // Words as 16-bit numbers.
 ghost use Rattle.std.specs.Prelude.{◌≡◌};
-ghost use Rattle.gain_words.specs.Pairs.{pairFault, runsBeyond};
+ghost use Rattle.gain_words.specs.Pairs.{«pair_fault», runs_beyond};
 
 use super::{COLOUR_GAINS, MOST_GAIN};
 
 // The index of the first word at fault, a pair's run before its gain; the number of words in pairs for none.
 pub fn pair_fault(pairs: &[u16]) -> usize
-    ensures { result ≡ pairFault pairs.now }
+    ensures { result ≡ «pair_fault» pairs.now }
 {
     let mut i = 0;
     while i + 1 < pairs.len() {
@@ -24,7 +24,7 @@ pub fn pair_fault(pairs: &[u16]) -> usize
 
 // Whether the runs of pairs, from a start on, go past a colour's gains. It stops as soon as they do, so that no sum wraps.
 pub fn runs_past(start: usize, pairs: &[u16]) -> bool
-    ensures { result ≡ runsBeyond start pairs.now }
+    ensures { result ≡ runs_beyond start pairs.now }
 {
     let mut end = start;
     let mut i = 0;

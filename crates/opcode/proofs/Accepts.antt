@@ -15,7 +15,7 @@ use native.Mathlib.Decide.{ℕ_discrete}
 use native.Mathlib.Omega.{arith}
 use lib.ListN.{get_or}
 use Rattle.wire.specs.First.{first}
-use Rattle.opcode.specs.Options.{isRead}
+use Rattle.opcode.specs.Options.{is_read}
 use Rattle.opcode.specs.Judgement.{judgement}
 use Rattle.opcode.specs.Allowed.{Allowed}
 use Rattle.wire.proofs.Tests.{Silent, silent-first, first-silent}
@@ -26,10 +26,10 @@ use Writes.{write-silent, silent-write, silent-length}
 silent-allowed : (op o : ℕ) (d : List ℕ) → Silent (judgement op o d) → Allowed op o d
 unfolding judgement
 silent-allowed op o d s =
-    elim (ℕ_discrete (isRead o) 1) [
+    elim (ℕ_discrete (is_read o) 1) [
       | yes h ↦ Allowed.asks h (silent-read op o d h s)
       | no h ↦
-          let w : isRead o ≡ 0 = omega arith in
+          let w : is_read o ≡ 0 = omega arith in
           Allowed.sets w (silent-write op o d w s) (silent-length op o d w s)
     ]
 

@@ -13,9 +13,9 @@ use native.Mathlib.Omega.{arith}
 use lib.ListN.{length, get_or}
 use borrow.Author.Tests.{ltb-true, ltb-false, ne_eqb}
 use Rattle.wire.specs.First.{first}
-use Rattle.opcode.specs.Options.{isRead}
-use Rattle.opcode.specs.Commands.{commandOf}
-use Rattle.opcode.specs.Judgement.{unknown, sizeWrong, valueFault, valueWrong, judgement, faultPlace}
+use Rattle.opcode.specs.Options.{is_read}
+use Rattle.opcode.specs.Commands.{command_of}
+use Rattle.opcode.specs.Judgement.{unknown, size_wrong, value_fault, value_wrong, judgement, fault_place}
 use Rattle.opcode.specs.Allowed.{Allowed}
 use Rattle.opcode.specs.Faults.{FieldOf, FirstFault}
 use Rattle.wire.proofs.Tests.{Among, Above, TestsTold, past-less, first-told, told}
@@ -38,31 +38,31 @@ pub record Located (op o : ℕ) (d : List ℕ) (number place : ℕ) : Type 0 whe
   pub allowed : Allowed op o d → {j v low high : ℕ} → FieldOf op o d j v low high → (low ≤ v) × (v ≤ high)
 
 -- The data of a read is all fields.
-read-long : (op o : ℕ) (d : List ℕ) → isRead o ≡ 1 → sizeWrong op o d ≡ false → length d ≡ (commandOf op).read
-unfolding sizeWrong
+read-long : (op o : ℕ) (d : List ℕ) → is_read o ≡ 1 → size_wrong op o d ≡ false → length d ≡ (command_of op).read
+unfolding size_wrong
 read-long op o d r size = let s = rw r at size in search told
 
-module _ {op o : ℕ} {d : List ℕ} (b : (k : ℕ) → get_or d k 0 < 256) (size : sizeWrong op o d ≡ false) where
-  right-before : {j v low high : ℕ} → min (suc j) (length d) ≤ valueFault op o d → FieldOf op o d j v low high → (low ≤ v) × (v ≤ high)
-  unfolding sizeWrong valueFault
+module _ {op o : ℕ} {d : List ℕ} (b : (k : ℕ) → get_or d k 0 < 256) (size : size_wrong op o d ≡ false) where
+  right-before : {j v low high : ℕ} → min (suc j) (length d) ≤ value_fault op o d → FieldOf op o d j v low high → (low ≤ v) × (v ≤ high)
+  unfolding size_wrong value_fault
   right-before {j} m (FieldOf.asks r f) =
       let behind = rw r at m in
-      read-before f (reached (commandOf op).asks (asks-sized op) d 0 j (omega (arith, asks-span op, read-long op o d r size)))
+      read-before f (reached (command_of op).asks (asks-sized op) d 0 j (omega (arith, asks-span op, read-long op o d r size)))
   right-before m (FieldOf.sets r f) = write-before b (rw r at size) (rw r at m) f
 
-  wrong-at : unknown op ≡ false → valueFault op o d < length d → FaultAt op o d (valueFault op o d)
-  unfolding sizeWrong valueFault
+  wrong-at : unknown op ≡ false → value_fault op o d < length d → FaultAt op o d (value_fault op o d)
+  unfolding size_wrong value_fault
   wrong-at known h =
-      elim (ℕ_discrete (isRead o) 1) [
+      elim (ℕ_discrete (is_read o) 1) [
         | yes r ↦
             let inside = rw r at h in
             rw r
-            (stopped (FaultAt op o d) (commandOf op).asks d 0 (read-wrong o d b r op known)
+            (stopped (FaultAt op o d) (command_of op).asks d 0 (read-wrong o d b r op known)
             (omega (arith, asks-span op, read-long op o d r size)))
-        | no n ↦ let r : isRead o ≡ 0 = omega arith in rw r (write-at o d b r op known (rw r at size) (rw r at h))
+        | no n ↦ let r : is_read o ≡ 0 = omega arith in rw r (write-at o d b r op known (rw r at size) (rw r at h))
       ]
 
-  found : unknown op ≡ false → valueFault op o d < length d → FirstFault op o d (valueFault op o d)
+  found : unknown op ≡ false → value_fault op o d < length d → FirstFault op o d (value_fault op o d)
   found known h =
       let w = wrong-at known h in
       record {
@@ -93,12 +93,12 @@ Apart ts us = Among 6 ts × Above 11 us
 -- What refusal 10 tells of them; and what is told where 10 is passed.
 pub record Tenth (op o : ℕ) (d : List ℕ) : Type 0 where
   pub known : unknown op ≡ false
-  pub sized : sizeWrong op o d ≡ false
-  pub inside : valueFault op o d < length d
+  pub sized : size_wrong op o d ≡ false
+  pub inside : value_fault op o d < length d
 
 record PastTenth (op o : ℕ) (d : List ℕ) : Type 0 where
-  sized : sizeWrong op o d ≡ false
-  right : valueWrong op o d ≡ false
+  sized : size_wrong op o d ≡ false
+  right : value_wrong op o d ≡ false
 
 past-tenth : (op o : ℕ) (d : List ℕ) {n : ℕ} → TestsTold n (judgement op o d) → Past 10 n → PastTenth op o d
 unfolding judgement
@@ -122,18 +122,18 @@ module _ (op o : ℕ) (d : List ℕ) (ts us : List (ℕ × Bool)) (apart : Apart
       record {
         known = rows.0.passed (inr (omega arith));
         sized = rows.1.1.0.passed (inr (omega arith));
-        inside = ltb-true (valueFault op o d) (length d) (rows.1.1.1.0.given e);
+        inside = ltb-true (value_fault op o d) (length d) (rows.1.1.1.0.given e);
       }
 
   -- One law for judging alone, making, reading and a step.
   module _ (b : (k : ℕ) → get_or d k 0 < 256) where
-    refused : first (ts ++ (judgement op o d ++ us)) ≡ 10 → FirstFault op o d (valueFault op o d)
+    refused : first (ts ++ (judgement op o d ++ us)) ≡ 10 → FirstFault op o d (value_fault op o d)
     refused e = let t = tenth e in found b t.sized t.known t.inside
 
     passed : PastTenth op o d → {j v low high : ℕ} → FieldOf op o d j v low high → (low ≤ v) × (v ≤ high)
-    passed t f = right-before b t.sized (omega (arith, ltb-false (valueFault op o d) (length d) t.right)) f
+    passed t f = right-before b t.sized (omega (arith, ltb-false (value_fault op o d) (length d) t.right)) f
 
-    pub located : {number place : ℕ} → number ≡ first (ts ++ (judgement op o d ++ us)) → place ≡ faultPlace number op o d → Located op o d number place
+    pub located : {number place : ℕ} → number ≡ first (ts ++ (judgement op o d ++ us)) → place ≡ fault_place number op o d → Located op o d number place
     located {number} {place} n p =
         record {
           first = at-ten;

@@ -12,7 +12,7 @@ use lib.ListN.{length, get_or, drop, drop_of_length-le}
 use lib.Seq.{drop-cons}
 use Rattle.wire.specs.Numbers.{word_at}
 use Rattle.opcode.specs.declared.Field.{Field}
-use Rattle.opcode.specs.Fields.{span, fault, takes, number, wordsAt, rise, riseFrom}
+use Rattle.opcode.specs.Fields.{span, fault, takes, number, words_at, rise, rise_from}
 use Rattle.opcode.specs.Internal.{sent, RisenTo}
 use Rattle.opcode.proofs.Accepts.Fields.{least}
 use Rattle.opcode.proofs.Accepts.Commands.{asks-sized, sets-sized}
@@ -20,30 +20,30 @@ use Rattle.opcode.proofs.Accepts.Commands.{asks-sized, sets-sized}
 -- How far m numbers from a place on rise (rule 5.5): the end; past one of them, or not; of the first k + 1 of them, whose fault is that of all, or which
 -- rise, so that the count goes on from the last.
 module _ (d : List ℕ) where
-  rise-end : (at m : ℕ) → m ≤ 1 → rise (wordsAt d at m) ≡ m
-  unfolding wordsAt rise riseFrom
+  rise-end : (at m : ℕ) → m ≤ 1 → rise (words_at d at m) ≡ m
+  unfolding words_at rise rise_from
   rise-end at zero h = refl
   rise-end at (suc zero) h = refl
   rise-end at (suc (suc n)) h = absurd (omega arith)
 
-  rise-up : (at m : ℕ) → 1 < m → word_at d at < word_at d (at + 2) → rise (wordsAt d at m) ≡ 1 + rise (wordsAt d (at + 2) (m - 1))
-  unfolding wordsAt rise riseFrom
+  rise-up : (at m : ℕ) → 1 < m → word_at d at < word_at d (at + 2) → rise (words_at d at m) ≡ 1 + rise (words_at d (at + 2) (m - 1))
+  unfolding words_at rise rise_from
   rise-up at zero h l = absurd (omega arith)
   rise-up at (suc zero) h l = absurd (omega arith)
   rise-up at (suc (suc n)) h l = let left : suc (suc n) - 1 ≡ suc n = omega arith in rw (lt-ltb _ _ l, left) (omega arith)
 
-  rise-down : (at m : ℕ) → 1 < m → word_at d (at + 2) ≤ word_at d at → rise (wordsAt d at m) ≡ 1
-  unfolding wordsAt rise riseFrom
+  rise-down : (at m : ℕ) → 1 < m → word_at d (at + 2) ≤ word_at d at → rise (words_at d at m) ≡ 1
+  unfolding words_at rise rise_from
   rise-down at zero h l = absurd (omega arith)
   rise-down at (suc zero) h l = absurd (omega arith)
   rise-down at (suc (suc n)) h l = rw (le-ltb _ _ l)
 
-  up_first : (k at : ℕ) → word_at d at < word_at d (at + 2) → rise (wordsAt d at (suc (suc k))) ≡ 1 + rise (wordsAt d (at + 2) (suc k))
+  up_first : (k at : ℕ) → word_at d at < word_at d (at + 2) → rise (words_at d at (suc (suc k))) ≡ 1 + rise (words_at d (at + 2) (suc k))
   up_first k at l =
       let left : suc (suc k) - 1 ≡ suc k = omega arith in
       rw left at (rise-up at (suc (suc k)) (omega arith) l)
 
-  rise-here : (k at m : ℕ) → k < m → rise (wordsAt d at (suc k)) ≤ k → rise (wordsAt d at m) ≡ rise (wordsAt d at (suc k))
+  rise-here : (k at m : ℕ) → k < m → rise (words_at d at (suc k)) ≤ k → rise (words_at d at m) ≡ rise (words_at d at (suc k))
   rise-here zero at m h e = absurd (omega (arith, rise-end at 1 (omega arith)))
   rise-here (suc k) at m h e =
       elim (dec_lt (word_at d at) (word_at d (at + 2))) [
@@ -53,7 +53,7 @@ module _ (d : List ℕ) where
         | no l ↦ omega (arith, rise-down at m (omega arith) (omega arith), rise-down at (suc (suc k)) (omega arith) (omega arith))
       ]
 
-  rise-past : (k at m : ℕ) → k < m → k < rise (wordsAt d at (suc k)) → rise (wordsAt d at m) ≡ k + rise (wordsAt d (at + 2 * k) (m - k))
+  rise-past : (k at m : ℕ) → k < m → k < rise (words_at d at (suc k)) → rise (words_at d at m) ≡ k + rise (words_at d (at + 2 * k) (m - k))
   rise-past zero at m h e =
       let here : at + 2 * 0 ≡ at = omega arith in
       let all : m - 0 ≡ m = omega arith in
@@ -77,10 +77,10 @@ module _ (d : List ℕ) (at count : ℕ) where
       (omega arith, rw (here, all) (omega arith))
 
   module _ (i : ℕ) (to : RisenTo d at count i) where
-    pub risen-end : count ≤ i + 1 → rise (wordsAt d at count) ≡ count
+    pub risen-end : count ≤ i + 1 → rise (words_at d at count) ≡ count
     risen-end h = omega (arith, rise-end d (at + 2 * i) (count - i) (omega arith))
 
-    pub risen-down : i + 1 < count → word_at d (at + 2 * i + 2) ≤ word_at d (at + 2 * i) → rise (wordsAt d at count) ≡ i + 1
+    pub risen-down : i + 1 < count → word_at d (at + 2 * i + 2) ≤ word_at d (at + 2 * i) → rise (words_at d at count) ≡ i + 1
     risen-down h l = omega (arith, rise-down d (at + 2 * i) (count - i) (omega arith) l)
 
     pub risen-up : i + 1 < count → word_at d (at + 2 * i) < word_at d (at + 2 * i + 2) → RisenTo d at count (i + 1)
@@ -90,10 +90,10 @@ module _ (d : List ℕ) (at count : ℕ) where
         (omega arith, rw (here, left) (omega (arith, rise-up d (at + 2 * i) (count - i) (omega arith) l)))
 
     module _ (k : ℕ) (more : i + k < count) where
-      pub risen-here : rise (wordsAt d (at + 2 * i) (suc k)) ≤ k → rise (wordsAt d at count) ≡ i + rise (wordsAt d (at + 2 * i) (suc k))
+      pub risen-here : rise (words_at d (at + 2 * i) (suc k)) ≤ k → rise (words_at d at count) ≡ i + rise (words_at d (at + 2 * i) (suc k))
       risen-here l = omega (arith, rise-here d k (at + 2 * i) (count - i) (omega arith) l)
 
-      pub risen-past : k < rise (wordsAt d (at + 2 * i) (suc k)) → RisenTo d at count (i + k)
+      pub risen-past : k < rise (words_at d (at + 2 * i) (suc k)) → RisenTo d at count (i + k)
       risen-past l =
           let here : at + 2 * (i + k) ≡ at + 2 * i + 2 * k = omega arith in
           let left : count - (i + k) ≡ count - i - k = omega arith in

@@ -12,8 +12,8 @@ use lib.Seq.{get_or-drop}
 use mir.Facts.{or_yes}
 use mir.Val.{has_key}
 use Rattle.opcode.specs.declared.Field.{Field}
-use Rattle.opcode.specs.Fields.{from-to-but}
-use Rattle.opcode.specs.Commands.{Command, commands, look_up, commandOf, none}
+use Rattle.opcode.specs.Fields.{from_to_but}
+use Rattle.opcode.specs.Commands.{Command, commands, look_up, command_of, none}
 use Rattle.opcode.specs.Internal.{Sized}
 use Rattle.opcode.proofs.Table.{and_left, and_right}
 use Rattle.opcode.proofs.Accepts.Commands.{Each, of-each}
@@ -33,11 +33,11 @@ not_listed : (op : ℕ) (cs : List Command) → Each (λ c. op ≡ c.opcode → 
 not_listed op [] e = refl
 not_listed op (c ∷ cs) e = rw (ne_eqb op c.opcode e.0) (not_listed op cs e.1)
 
-pub unlisted : (op : ℕ) → Each (λ c. op ≡ c.opcode → ⊥) commands → commandOf op ≡ none
-unfolding commandOf
+pub unlisted : (op : ℕ) → Each (λ c. op ≡ c.opcode → ⊥) commands → command_of op ≡ none
+unfolding command_of
 unlisted op e = not_listed op commands e
 
-pub beyond : (op : ℕ) → 255 < op → commandOf op ≡ none
+pub beyond : (op : ℕ) → 255 < op → command_of op ≡ none
 beyond op h = unlisted op (omega arith)
 
 -- ---- Fields.
@@ -53,7 +53,7 @@ same-field f g t =
     let high : f.high ≡ g.high = search parts in
     let gap : f.gap ≡ g.gap = search parts in
     let past : f.past ≡ g.past = search parts in
-    let whole : from-to-but f.size f.low f.high f.gap f.past ≡ from-to-but g.size g.low g.high g.gap g.past = cc in
+    let whole : from_to_but f.size f.low f.high f.gap f.past ≡ from_to_but g.size g.low g.high g.gap g.past = cc in
     whole
 
 abbrev pub all : {A : Type 0} → (A → Bool) → List A → Bool
@@ -82,10 +82,10 @@ onward n f fs k t b =
     each_same f (drop n fs) (k - n) t ∙ rw (get_or-drop n fs (k - n) f, e)
 
 -- The field of an arm, a constant or what a call gives: it is each field of the command that is the arm's key.
-pub only : (o op k : ℕ) (f : Field) → op ≡ o → T (all (same f) (commandOf o).sets) → f ≡ get_or (commandOf op).sets k f
-only o op k f e t = rw e (each_same f (commandOf o).sets k t)
+pub only : (o op k : ℕ) (f : Field) → op ≡ o → T (all (same f) (command_of o).sets) → f ≡ get_or (command_of op).sets k f
+only o op k f e t = rw e (each_same f (command_of o).sets k t)
 
-pub only-call : (o op k : ℕ) (r f : Field) → op ≡ o → r ≡ f → T (all (same f) (commandOf o).sets) → r ≡ get_or (commandOf op).sets k r
+pub only-call : (o op k : ℕ) (r f : Field) → op ≡ o → r ≡ f → T (all (same f) (command_of o).sets) → r ≡ get_or (command_of op).sets k r
 only-call o op k r f e g t = rw g (only o op k f e t)
 
 -- What a default knows behind arms of these keys, the last arm first.
@@ -103,15 +103,15 @@ each-test test (c ∷ cs) t = (and_left (test c) (all test cs) t, each-test test
 
 -- What each command but those of the keys passes.
 pub of-rest : (test : Command → Bool) (ks : List ℕ) → ((op : ℕ) → T (test none || has_key ks op))
-    → T (all (λ c. test c || has_key ks c.opcode) commands) → (op : ℕ) → NoKey ks op → T (test (commandOf op))
+    → T (all (λ c. test c || has_key ks c.opcode) commands) → (op : ℕ) → NoKey ks op → T (test (command_of op))
 of-rest test ks n t op none =
     let passed = of-each (λ op c. T (test c || has_key ks op)) n (each-test (λ c. test c || has_key ks c.opcode) commands t) op in
-    ⊎_elim (λ h. h) (λ h. absurd (no_key ks op none h)) (or_yes (test (commandOf op)) (has_key ks op) passed)
+    ⊎_elim (λ h. h) (λ h. absurd (no_key ks op none h)) (or_yes (test (command_of op)) (has_key ks op) passed)
 
 -- The field of a default: it is each field of every other command.
 pub others : (f : Field) (ks : List ℕ) (op k : ℕ) → T (all (λ c. all (same f) c.sets || has_key ks c.opcode) commands) → NoKey ks op
-    → f ≡ get_or (commandOf op).sets k f
-others f ks op k t n = each_same f (commandOf op).sets k (of-rest (λ c. all (same f) c.sets) ks (λ op. tt) t op n)
+    → f ≡ get_or (command_of op).sets k f
+others f ks op k t n = each_same f (command_of op).sets k (of-rest (λ c. all (same f) c.sets) ks (λ op. tt) t op n)
 
 -- Fields that others start with.
 abbrev pub starts : List Field → List Field → Bool
@@ -127,6 +127,6 @@ started r (f ∷ fs) (g ∷ gs) (suc k) t e = started r fs gs k (and_right (same
 
 -- A read of every other command sends what a write starts with, or nothing.
 pub asked : (ks : List ℕ) (op k : ℕ) {r : Field} → T (all (λ c. starts c.asks c.sets || has_key ks c.opcode) commands) → NoKey ks op
-    → r ≡ get_or (commandOf op).sets k r → r ≡ get_or (commandOf op).asks k r
+    → r ≡ get_or (command_of op).sets k r → r ≡ get_or (command_of op).asks k r
 asked ks op k {r} t n =
-    started r (commandOf op).asks (commandOf op).sets k (of-rest (λ c. starts c.asks c.sets) ks (λ op. tt) t op n)
+    started r (command_of op).asks (command_of op).sets k (of-rest (λ c. starts c.asks c.sets) ks (λ op. tt) t op n)

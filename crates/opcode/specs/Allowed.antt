@@ -2,7 +2,7 @@
 use Rattle.std.specs.Prelude.{ℕ, ◌+◌, ◌*◌, ◌≤◌, ◌<◌, ◌≡◌, List, [], ◌∷◌, ◌++◌, length, get_or}
 use Rattle.wire.specs.Tables.{words}
 use Rattle.gain_words.specs.Plain.{Pairs}
-use Rattle.opcode.specs.Options.{hasLength, isRead}
+use Rattle.opcode.specs.Options.{has_length, is_read}
 
 -- Rule 5.5: strictly rising.
 pub data Rising : List ℕ → Type 0 where
@@ -114,5 +114,5 @@ pub data NeedsLength : ℕ → Type 0 where
 
 -- Rules 5.1 to 5.9 and 5.11: data is allowed for an opcode under its options.
 pub data Allowed : ℕ → ℕ → List ℕ → Type 0 where
-  asks : {op o : ℕ} {d : List ℕ} → isRead o ≡ 1 → ReadData op d → Allowed op o d
-  sets : {op o : ℕ} {d : List ℕ} → isRead o ≡ 0 → WriteData op d → (NeedsLength op → hasLength o ≡ 1) → Allowed op o d
+  asks : {op o : ℕ} {d : List ℕ} → is_read o ≡ 1 → ReadData op d → Allowed op o d
+  sets : {op o : ℕ} {d : List ℕ} → is_read o ≡ 0 → WriteData op d → (NeedsLength op → has_length o ≡ 1) → Allowed op o d

@@ -1,7 +1,7 @@
 -- Rule 4.6: where the first value at fault stands, from a list of all fields that can be at fault and not by way of the tests that find it. Elements are bytes.
 use Rattle.std.specs.Prelude.{ℕ, ◌+◌, ◌*◌, ◌≤◌, ◌<◌, ◌≡◌, ◌⊎◌, List, length}
-use Rattle.wire.specs.Numbers.{byte_at, word_at, longAt}
-use Rattle.opcode.specs.Options.{isRead}
+use Rattle.wire.specs.Numbers.{byte_at, word_at, long_at}
+use Rattle.opcode.specs.Options.{is_read}
 
 -- A write's opcode; then the place of a field in its data, its number, and the least and the most that this may be: command by command, in packet
 -- order. Fields that take any number are left out, as they are never at fault.
@@ -44,7 +44,7 @@ pub data WriteField (d : List ℕ) : (op place value least most : ℕ) → Type 
   level-alone : WriteField d 0x61 1 (byte_at d 1) 0 1
   -- Rule 5.1, 65h: port 13, or 0-10; the frequency has four bytes.
   pwm-port : (byte_at d 0 ≡ 13 → ⊥) → WriteField d 0x65 0 (byte_at d 0) 0 10
-  frequency : WriteField d 0x65 1 (longAt d 1) 20 10_390_000
+  frequency : WriteField d 0x65 1 (long_at d 1) 20 10_390_000
   duty : WriteField d 0x65 5 (byte_at d 5) 0 100
   pwm-on : WriteField d 0x65 6 (byte_at d 6) 0 1
   -- Rule 5.1, 6Dh: the port, and its ten settings.
@@ -75,8 +75,8 @@ pub data ReadField (d : List ℕ) : (op place value least most : ℕ) → Type 0
 
 -- Of a command under its options.
 pub data FieldOf (op o : ℕ) (d : List ℕ) (place value least most : ℕ) : Type 0 where
-  asks : isRead o ≡ 1 → ReadField d op place value least most → FieldOf op o d place value least most
-  sets : isRead o ≡ 0 → WriteField d op place value least most → FieldOf op o d place value least most
+  asks : is_read o ≡ 1 → ReadField d op place value least most → FieldOf op o d place value least most
+  sets : is_read o ≡ 0 → WriteField d op place value least most → FieldOf op o d place value least most
 
 -- Rule 4.6: a place is that of the first fault if a field stands there whose number is out of its range, and the number of every field before it is
 -- within its own. There is one such place at most.

@@ -2,7 +2,7 @@
 -- tests. Elements are bytes.
 use Rattle.std.specs.Prelude.{ℕ, ◌+◌, ◌*◌, ◌≤◌, ◌<◌, ◌≡◌, ◌⊎◌, List, length}
 use Rattle.wire.specs.Numbers.{byte_at, word_at}
-use Rattle.opcode.specs.Options.{hasLength, isRead}
+use Rattle.opcode.specs.Options.{has_length, is_read}
 use Rattle.opcode.specs.Allowed.{SendsNothing, NeedsLength}
 
 -- Rules 5.1 and 5.6: the commands that write one byte.
@@ -52,8 +52,8 @@ pub data ReadSize (d : List ℕ) : ℕ → Type 0 where
 
 -- Of a command under its options.
 pub data SizeRight (op o : ℕ) (d : List ℕ) : Type 0 where
-  asks : isRead o ≡ 1 → ReadSize d op → SizeRight op o d
-  sets : isRead o ≡ 0 → WriteSize d op → SizeRight op o d
+  asks : is_read o ≡ 1 → ReadSize d op → SizeRight op o d
+  sets : is_read o ≡ 0 → WriteSize d op → SizeRight op o d
 
 -- Rule 5.1: an opcode of the eighteen: its read sends nothing, or it is one of these six.
 pub data Carried : ℕ → Type 0 where
@@ -67,12 +67,12 @@ pub data Carried : ℕ → Type 0 where
 
 -- Rule 4.1, 8: a write that needs a length field and lacks it.
 pub record LacksLength (op o : ℕ) : Type 0 where
-  pub write : isRead o ≡ 0
+  pub write : is_read o ≡ 0
   pub needs : NeedsLength op
-  pub lacks : hasLength o ≡ 0
+  pub lacks : has_length o ≡ 0
 
 -- Rule 4.1, 11: merge mode.
 pub record Merges (op o : ℕ) (d : List ℕ) : Type 0 where
-  pub write : isRead o ≡ 0
+  pub write : is_read o ≡ 0
   pub update : op ≡ 0x39
   pub mode : byte_at d 0 ≡ 1

@@ -1,8 +1,8 @@
 // The fields of each command's data, in packet order, and the first of them at fault.
 ghost use Rattle.std.specs.Prelude.{◌≡◌, ◌<◌, get_or};
-ghost use Rattle.opcode.specs.Fields.{«byte», «word», from-to, from-to-but, takes, span, «fault»};
+ghost use Rattle.opcode.specs.Fields.{«byte», «word», «from_to», «from_to_but», takes, span, «fault»};
 ghost use Rattle.opcode.specs.Fields.{«number» as number_at};
-ghost use Rattle.opcode.specs.Commands.{commandOf};
+ghost use Rattle.opcode.specs.Commands.{command_of};
 ghost use Rattle.opcode.specs.Internal.{sent};
 
 use super::{Field, limits};
@@ -24,7 +24,7 @@ const ANY_WORD: Field = Field {
 };
 
 fn from_to_but(size: usize, low: usize, high: usize, gap: usize, past: usize) -> Field
-    ensures { result ≡ from-to-but size low high gap past }
+    ensures { result ≡ «from_to_but» size low high gap past }
 {
     Field {
         size,
@@ -36,7 +36,7 @@ fn from_to_but(size: usize, low: usize, high: usize, gap: usize, past: usize) ->
 }
 
 fn from_to(size: usize, low: usize, high: usize) -> Field
-    ensures { result ≡ from-to size low high }
+    ensures { result ≡ «from_to» size low high }
 {
     from_to_but(size, low, high, 0, 0)
 }
@@ -55,7 +55,7 @@ fn word(low: usize, high: usize) -> Field
 
 // The k-th field of a write's data, where there is one; if the write's size varies, of its fixed head.
 fn set_field(opcode: usize, k: usize) -> Field
-    ensures { result ≡ get_or (commandOf opcode).sets k result }
+    ensures { result ≡ get_or (command_of opcode).sets k result }
 {
     match opcode {
         0x11 => byte(0, limits::MOST_DISPLAY),
@@ -78,7 +78,7 @@ fn set_field(opcode: usize, k: usize) -> Field
 
 // 2Bh: compression, colour, count, start.
 fn gains_field(k: usize) -> Field
-    ensures { result ≡ get_or (commandOf 0x2B).sets k result }
+    ensures { result ≡ get_or (command_of 0x2B).sets k result }
 {
     match k {
         0 => FLAG,
@@ -90,7 +90,7 @@ fn gains_field(k: usize) -> Field
 
 // 2Bh, a read: colour, start, count.
 fn gains_asked(k: usize) -> Field
-    ensures { result ≡ get_or (commandOf 0x2B).asks k result }
+    ensures { result ≡ get_or (command_of 0x2B).asks k result }
 {
     match k {
         0 => byte(1, 3),
@@ -101,7 +101,7 @@ fn gains_asked(k: usize) -> Field
 
 // 34h, a read: start, count.
 fn points_asked(k: usize) -> Field
-    ensures { result ≡ get_or (commandOf 0x34).asks k result }
+    ensures { result ≡ get_or (command_of 0x34).asks k result }
 {
     match k {
         0 => ANY_WORD,
@@ -111,7 +111,7 @@ fn points_asked(k: usize) -> Field
 
 // 35h: mode, columns, rows.
 fn control_field(k: usize) -> Field
-    ensures { result ≡ get_or (commandOf 0x35).sets k result }
+    ensures { result ≡ get_or (command_of 0x35).sets k result }
 {
     match k {
         0 => FLAG,
@@ -122,7 +122,7 @@ fn control_field(k: usize) -> Field
 
 // 60h: pin, direction, level, drain; 61h: pin, level.
 fn pin_field(k: usize) -> Field
-    ensures { (result ≡ get_or (commandOf 0x60).sets k result) × (result ≡ get_or (commandOf 0x61).sets k result) }
+    ensures { (result ≡ get_or (command_of 0x60).sets k result) × (result ≡ get_or (command_of 0x61).sets k result) }
 {
     match k {
         0 => byte(0, limits::MOST_PIN),
@@ -132,7 +132,7 @@ fn pin_field(k: usize) -> Field
 
 // 65h: port, frequency, duty, on.
 fn pwm_field(k: usize) -> Field
-    ensures { result ≡ get_or (commandOf 0x65).sets k result }
+    ensures { result ≡ get_or (command_of 0x65).sets k result }
 {
     match k {
         0 => from_to_but(1, 0, 13, 11, 13),
@@ -144,7 +144,7 @@ fn pwm_field(k: usize) -> Field
 
 // 6Dh: port, on, baud, bits, stop, parity, flow, two triggers, polarity, source.
 fn uart_field(k: usize) -> Field
-    ensures { result ≡ get_or (commandOf 0x6D).sets k result }
+    ensures { result ≡ get_or (command_of 0x6D).sets k result }
 {
     match k {
         0 => byte(0, 2),

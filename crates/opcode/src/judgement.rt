@@ -2,10 +2,10 @@
 ghost use Rattle.std.specs.Prelude.{◌≡◌, ◌*◌, ◌≤◌, length};
 ghost use Rattle.wire.specs.First.{first};
 ghost use Rattle.opcode.specs.Commands.{row_of};
-ghost use Rattle.opcode.specs.Judgement.{judgement, faultPlace, sizeWrong, variableSizeWrong, valueFault, variableFault};
-ghost use Rattle.opcode.specs.Judgement.{«unknown», lacksLength, namedOnly};
-ghost use Rattle.opcode.specs.Judgement.{pointsSizeWrong, gainsSizeWrong, controlSizeWrong, smoothSizeWrong};
-ghost use Rattle.opcode.specs.Judgement.{inPairs, wordsFault, gainsFault, listsFault, controlFault, smoothFault};
+ghost use Rattle.opcode.specs.Judgement.{judgement, fault_place, «size_wrong», «variable_size_wrong», «value_fault», «variable_fault»};
+ghost use Rattle.opcode.specs.Judgement.{«unknown», «lacks_length», «named_only»};
+ghost use Rattle.opcode.specs.Judgement.{«points_size_wrong», «gains_size_wrong», «control_size_wrong», «smooth_size_wrong»};
+ghost use Rattle.opcode.specs.Judgement.{«in_pairs», «words_fault», «gains_fault», «lists_fault», «control_fault», «smooth_fault»};
 
 use super::fields::fault;
 use super::limits::{MOST_COLUMNS, MOST_ROWS};
@@ -31,7 +31,7 @@ const SMOOTH_HEAD: usize = 2;
 // place that the search for a value at fault came to.
 pub fn judge(opcode: usize, options: usize, data: &[u8]) -> Refusal
     ensures { (result.number ≡ first (judgement opcode options «data».now))
-        × (result.place ≡ faultPlace (first (judgement opcode options «data».now)) opcode options «data».now) }
+        × (result.place ≡ fault_place (first (judgement opcode options «data».now)) opcode options «data».now) }
 {
     let row = row_at(opcode);
     if unknown(row, opcode) {
@@ -64,7 +64,7 @@ fn unknown(row: Row, opcode: usize) -> bool
 // 8: a write without a length field, of a command that varies in size.
 fn lacks_length(row: Row, opcode: usize, options: usize) -> bool
     requires { row ≡ row_of opcode }
-    ensures { result ≡ lacksLength opcode options }
+    ensures { result ≡ «lacks_length» opcode options }
 {
     (options / bits::READ % 2 == 0) & (row.kind == VARIABLE) & (options / bits::LENGTH % 2 == 0)
 }
@@ -72,7 +72,7 @@ fn lacks_length(row: Row, opcode: usize, options: usize) -> bool
 // 9: the size is wrong for the command.
 fn size_wrong(row: Row, opcode: usize, options: usize, data: &[u8]) -> bool
     requires { row ≡ row_of opcode }
-    ensures { result ≡ sizeWrong opcode options «data».now }
+    ensures { result ≡ «size_wrong» opcode options «data».now }
 {
     if options / bits::READ % 2 == 1 {
         return data.len() != row.read;
@@ -84,7 +84,7 @@ fn size_wrong(row: Row, opcode: usize, options: usize, data: &[u8]) -> bool
 }
 
 fn variable_size_wrong(opcode: usize, data: &[u8]) -> bool
-    ensures { result ≡ variableSizeWrong opcode «data».now }
+    ensures { result ≡ «variable_size_wrong» opcode «data».now }
 {
     match opcode {
         0x2B => gains_size_wrong(data),
@@ -96,21 +96,21 @@ fn variable_size_wrong(opcode: usize, data: &[u8]) -> bool
 
 // 34h: start, and one point or more.
 fn points_size_wrong(data: &[u8]) -> bool
-    ensures { result ≡ pointsSizeWrong «data».now }
+    ensures { result ≡ «points_size_wrong» «data».now }
 {
     !((6 <= data.len()) & (data.len() % 4 == 2))
 }
 
 // 2Bh: whether its words are compressed, in pairs of a run and a gain.
 pub fn in_pairs(data: &[u8]) -> bool
-    ensures { result ≡ inPairs «data».now }
+    ensures { result ≡ «in_pairs» «data».now }
 {
     wire::byte(data, 0) == 1
 }
 
 // 2Bh: compression, colour, count, start, and as many words as the count says; in pairs, an even count.
 fn gains_size_wrong(data: &[u8]) -> bool
-    ensures { result ≡ gainsSizeWrong «data».now }
+    ensures { result ≡ «gains_size_wrong» «data».now }
 {
     let count = wire::word(data, 2);
     !((GAINS_HEAD <= data.len()) & (data.len() == GAINS_HEAD + 2 * count))
@@ -119,7 +119,7 @@ fn gains_size_wrong(data: &[u8]) -> bool
 
 // 35h: the mode, then two counts or two lists; with a mode above 1 no size is wrong.
 fn control_size_wrong(data: &[u8]) -> bool
-    ensures { result ≡ controlSizeWrong «data».now }
+    ensures { result ≡ «control_size_wrong» «data».now }
 {
     if data.len() == 0 {
         return true;
@@ -136,7 +136,7 @@ fn control_size_wrong(data: &[u8]) -> bool
 
 // 38h: columns, rows, and a point for each; with counts out of range no size is wrong.
 fn smooth_size_wrong(data: &[u8]) -> bool
-    ensures { result ≡ smoothSizeWrong «data».now }
+    ensures { result ≡ «smooth_size_wrong» «data».now }
 {
     if data.len() < SMOOTH_HEAD {
         return true;
@@ -150,7 +150,7 @@ fn smooth_size_wrong(data: &[u8]) -> bool
 // 10: the place of the first value at fault, the data's length or more for none.
 fn value_fault(row: Row, opcode: usize, options: usize, data: &[u8]) -> usize
     requires { row ≡ row_of opcode }
-    ensures { result ≡ valueFault opcode options «data».now }
+    ensures { result ≡ «value_fault» opcode options «data».now }
 {
     if options / bits::READ % 2 == 1 {
         return fault(opcode, true, row.read, data);
@@ -162,7 +162,7 @@ fn value_fault(row: Row, opcode: usize, options: usize, data: &[u8]) -> usize
 }
 
 fn variable_fault(opcode: usize, data: &[u8]) -> usize
-    ensures { result ≡ variableFault opcode «data».now }
+    ensures { result ≡ «variable_fault» opcode «data».now }
 {
     match opcode {
         0x2B => gains_fault(data),
@@ -174,7 +174,7 @@ fn variable_fault(opcode: usize, data: &[u8]) -> usize
 
 // 2Bh: its fields; then its words.
 fn gains_fault(data: &[u8]) -> usize
-    ensures { result ≡ gainsFault «data».now }
+    ensures { result ≡ «gains_fault» «data».now }
 {
     let head = fault(0x2B, false, GAINS_HEAD, data);
     if head < GAINS_HEAD {
@@ -185,7 +185,7 @@ fn gains_fault(data: &[u8]) -> usize
 
 // 2Bh: the index of the first word at fault: a gain, or of a pair the run before the gain.
 fn words_fault(data: &[u8]) -> usize
-    ensures { (result ≡ wordsFault «data».now) × (2 * result ≤ length «data».now) }
+    ensures { (result ≡ «words_fault» «data».now) × (2 * result ≤ length «data».now) }
 {
     if in_pairs(data) {
         return gain_words::bytes::pair_fault(data, GAINS_HEAD);
@@ -195,7 +195,7 @@ fn words_fault(data: &[u8]) -> usize
 
 // 35h: in mode 1 the lists, else the fields.
 fn control_fault(data: &[u8]) -> usize
-    ensures { result ≡ controlFault «data».now }
+    ensures { result ≡ «control_fault» «data».now }
 {
     if wire::byte(data, 0) == 1 {
         return lists_fault(data);
@@ -205,7 +205,7 @@ fn control_fault(data: &[u8]) -> usize
 
 // 35h in mode 1: 62 and then 32 numbers, each list rising.
 fn lists_fault(data: &[u8]) -> usize
-    ensures { result ≡ listsFault «data».now }
+    ensures { result ≡ «lists_fault» «data».now }
 {
     let columns = rise(data, COLUMN_LIST, MOST_COLUMNS);
     if columns < MOST_COLUMNS {
@@ -216,7 +216,7 @@ fn lists_fault(data: &[u8]) -> usize
 
 // 38h: its two counts.
 fn smooth_fault(data: &[u8]) -> usize
-    ensures { result ≡ smoothFault «data».now }
+    ensures { result ≡ «smooth_fault» «data».now }
 {
     let head = fault(0x38, false, SMOOTH_HEAD, data);
     if head < SMOOTH_HEAD {
@@ -227,7 +227,7 @@ fn smooth_fault(data: &[u8]) -> usize
 
 // 11: merge mode of 39h.
 fn named_only(opcode: usize, options: usize, data: &[u8]) -> bool
-    ensures { result ≡ namedOnly opcode options «data».now }
+    ensures { result ≡ «named_only» opcode options «data».now }
 {
     (options / bits::READ % 2 == 0) & (opcode == 0x39) & (wire::byte(data, 0) == 1)
 }

@@ -1,4 +1,6 @@
 // The commands carried: the table of all one-byte opcodes, the fields of their data, and the judgement of a command (refusals 7 to 11).
+#![tactic(auto)]
+
 pub mod bits;
 mod fields;
 mod judgement;

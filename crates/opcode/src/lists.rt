@@ -1,8 +1,8 @@
 // A list of 16-bit numbers in bytes: the index of the first that does not rise.
 ghost use Rattle.std.specs.Prelude.{◌≡◌, ◌+◌, ◌*◌, ◌-◌, ◌≤◌, ltb, length};
 ghost use Rattle.wire.specs.Numbers.{word_at};
-ghost use Rattle.opcode.specs.Fields.{wordsAt, «rise»};
-ghost use Rattle.opcode.specs.Internal.{stretchSteps, RisenTo};
+ghost use Rattle.opcode.specs.Fields.{words_at, «rise»};
+ghost use Rattle.opcode.specs.Internal.{stretch_steps, RisenTo};
 
 // Numbers are compared in stretches of so many steps from one to the next, with no test in between of where the list or the bytes end.
 const STRETCH: usize = 5;
@@ -10,7 +10,7 @@ const STRETCH: usize = 5;
 // The index of the first of count numbers from a place on that is not above the one before it, count for none.
 pub fn rise(s: &[u8], at: usize, count: usize) -> usize
     requires { (at ≤ 65536) × (count ≤ 65536) }
-    ensures { (result ≡ «rise» (wordsAt s.now at count)) × (result ≤ count) }
+    ensures { (result ≡ «rise» (words_at s.now at count)) × (result ≤ count) }
 {
     let inside = within(s, at, count);
     let mut i = 0;
@@ -34,8 +34,8 @@ fn within(s: &[u8], at: usize, count: usize) -> usize
 
 // The index of the first fault as above, of the numbers of one stretch.
 fn stretch(s: &[u8], at: usize) -> usize
-    requires { at + 2 * (stretchSteps + 1) ≤ length s.now }
-    ensures { (result ≡ «rise» (wordsAt s.now at (stretchSteps + 1))) × (result ≤ stretchSteps + 1) }
+    requires { at + 2 * (stretch_steps + 1) ≤ length s.now }
+    ensures { (result ≡ «rise» (words_at s.now at (stretch_steps + 1))) × (result ≤ stretch_steps + 1) }
 {
     let mut i = 0;
     while i < STRETCH {
@@ -58,7 +58,7 @@ pub fn next_above(s: &[u8], at: usize) -> bool
 // The index of the first fault as above, one number after the other, from an index on up to which they are known to rise.
 fn walk(s: &[u8], at: usize, count: usize, from: usize) -> usize
     requires { (at ≤ 65536) × (count ≤ 65536) × RisenTo s.now at count from }
-    ensures { (result ≡ «rise» (wordsAt s.now at count)) × (result ≤ count) }
+    ensures { (result ≡ «rise» (words_at s.now at count)) × (result ≤ count) }
 {
     let mut i = from;
     while i + 1 < count {

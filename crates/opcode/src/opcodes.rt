@@ -1,6 +1,6 @@
 // The table of all one-byte opcodes (rule 5.2).
 ghost use Rattle.std.specs.Prelude.{◌≡◌};
-ghost use Rattle.opcode.specs.Commands.{commandOf, row_of};
+ghost use Rattle.opcode.specs.Commands.{command_of, row_of};
 ghost use Rattle.opcode.specs.Internal.{Sized};
 
 use super::Row;
@@ -75,7 +75,7 @@ pub fn row_at(opcode: usize) -> Row
 
 // The packed row of any opcode; one over 255 is not carried.
 fn packed_at(opcode: usize) -> u16
-    ensures { Sized result (commandOf opcode) }
+    ensures { Sized result (command_of opcode) }
 {
     if 255 < opcode {
         return 0;

@@ -12,13 +12,13 @@ use lib.Dec.{eqb, leb}
 use Rattle.wire.specs.Checksum.{checksum, sealed}
 use Rattle.wire.proofs.Plain.{least-one}
 use Rattle.wire.proofs.Tests.{and_left, and_right}
-use Rattle.opcode.specs.Options.{hasLength, hasChecksum, isRead}
+use Rattle.opcode.specs.Options.{has_length, has_checksum, is_read}
 use Rattle.opcode.specs.Faults.{FirstFault}
 use Rattle.opcode.proofs.Faults.{only_one}
-use Rattle.packet.specs.Frame.{headerOf, opcode_of, optionsOf, data_of}
+use Rattle.packet.specs.Frame.{header_of, opcode_of, options_of, data_of}
 use Rattle.packet.specs.Reading.{Answer, reading}
-use Rattle.packet.specs.Making.{Made, present, headBytes, packetOf}
-use Rattle.packet.specs.Points.{start_of, count_of, writesPoints, acceptedAt, mapAfter}
+use Rattle.packet.specs.Making.{Made, present, head_bytes, packet_of}
+use Rattle.packet.specs.Points.{start_of, count_of, writes_points, accepted_at, map_after}
 use Rattle.packet.specs.Plain.{ReadPlain, MakePlain, AnnouncedPlain, WritesAt, Pinned, unsealed}
 use Rattle.packet.proofs.Frames.{reading-number, accepted}
 use Rattle.packet.proofs.Promises.{read-promised}
@@ -75,7 +75,7 @@ make-determined op options d buffer m k f g =
 -- A length field is there, or not.
 pub announced-determined : (p : List ℕ) (m n : ℕ) → AnnouncedPlain p m → AnnouncedPlain p n → m ≡ n
 announced-determined p m n f g =
-    elim (ℕ_discrete (hasLength (headerOf p)) 1) [
+    elim (ℕ_discrete (has_length (header_of p)) 1) [
       | yes e ↦ f.with-length e ∙ sym (g.with-length e)
       | no e ↦ f.without (omega arith) ∙ sym (g.without (omega arith))
     ]
@@ -98,32 +98,32 @@ zero-byte zero h = refl
 zero-byte (suc zero) h = refl
 zero-byte (suc (suc b)) h = absurd (omega arith)
 
-body_is : (op o : ℕ) (d : List ℕ) → headBytes op o (length d) ++ d ≡ unsealed op o d
+body_is : (op o : ℕ) (d : List ℕ) → head_bytes op o (length d) ++ d ≡ unsealed op o d
 body_is op o d =
     let head = zero-byte (o / 8 % 2) (omega arith) in
     let counted = two_bytes (o / 16 % 2) (length d % 256) (length d / 256) (omega arith) in
     ap (λ (l : List ℕ). (4 + o) ∷ op ∷ l)
     (rw (head, counted) (append_assoc (replicate (o / 8 % 2) 0) (take (2 * (o / 16 % 2)) (length d % 256 ∷ length d / 256 ∷ [])) d))
 
-packet-is : (op o : ℕ) (d : List ℕ) → packetOf op o d ≡ unsealed op o d ++ take (o / 32 % 2) (checksum (unsealed op o d) ∷ [])
-unfolding packetOf
+packet-is : (op o : ℕ) (d : List ℕ) → packet_of op o d ≡ unsealed op o d ++ take (o / 32 % 2) (checksum (unsealed op o d) ∷ [])
+unfolding packet_of
 packet-is op o d =
-    ap (λ (body : List ℕ). sealed (eqb (hasChecksum o) 1) body) (body_is op o d)
+    ap (λ (body : List ℕ). sealed (eqb (has_checksum o) 1) body) (body_is op o d)
     ∙ ap (λ (l : List ℕ). unsealed op o d ++ l) (one_byte (o / 32 % 2) (checksum (unsealed op o d)) (omega arith))
 
 -- Reading's command is that of the packet.
-read_as : (p : List ℕ) → (reading p).number ≡ 0 → ((reading p).opcode ≡ opcode_of p) × (isRead (reading p).options ≡ isRead (headerOf p))
+read_as : (p : List ℕ) → (reading p).number ≡ 0 → ((reading p).opcode ≡ opcode_of p) × (is_read (reading p).options ≡ is_read (header_of p))
 read_as p z =
     let whole = accepted p (sym (reading-number p) ∙ z) in
-    let options : (reading p).options ≡ optionsOf p = ap (λ (a : Answer). a.options) whole in
+    let options : (reading p).options ≡ options_of p = ap (λ (a : Answer). a.options) whole in
     (ap (λ (a : Answer). a.opcode) whole, rw options (omega arith))
 
-writes_at : (n : ℕ) (p : List ℕ) → acceptedAt n p ≡ true → WritesAt n p
+writes_at : (n : ℕ) (p : List ℕ) → accepted_at n p ≡ true → WritesAt n p
 writes_at n p h =
-    let writes : writesPoints p ≡ true = and_left (writesPoints p) (leb (start_of (data_of p) + count_of (data_of p)) n) h in
+    let writes : writes_points p ≡ true = and_left (writes_points p) (leb (start_of (data_of p) + count_of (data_of p)) n) h in
     let one = eqb (reading p).number 0 in
     let two = eqb (reading p).opcode 0x34 in
-    let three = eqb (isRead (reading p).options) 0 in
+    let three = eqb (is_read (reading p).options) 0 in
     let front = and_left (one && two) three writes in
     let taken : (reading p).number ≡ 0 = eqb-true _ _ (and_left one two front) in
     let as_read = read_as p taken in
@@ -131,21 +131,21 @@ writes_at n p h =
       taken = taken;
       points = sym as_read.0 ∙ eqb-true _ _ (and_right one two front);
       write = sym as_read.1 ∙ eqb-true _ _ (and_right (one && two) three writes);
-      within = leb-true _ _ (and_right (writesPoints p) _ h);
+      within = leb-true _ _ (and_right (writes_points p) _ h);
     }
 
-at-writes : (n : ℕ) (p : List ℕ) → WritesAt n p → acceptedAt n p ≡ true
+at-writes : (n : ℕ) (p : List ℕ) → WritesAt n p → accepted_at n p ≡ true
 at-writes n p w =
     let as_read = read_as p w.taken in
     rw (eq-eqb _ _ w.taken, eq-eqb _ _ (as_read.0 ∙ w.points), eq-eqb _ _ (as_read.1 ∙ w.write), le-leb _ _ w.within)
 
-kept-else : (n : ℕ) (p map : List ℕ) (b : Bool) → acceptedAt n p ≡ b → (WritesAt n p → ⊥) → mapAfter n p map ≡ map
-unfolding mapAfter
+kept-else : (n : ℕ) (p map : List ℕ) (b : Bool) → accepted_at n p ≡ b → (WritesAt n p → ⊥) → map_after n p map ≡ map
+unfolding map_after
 kept-else n p map true e h = absurd (h (writes_at n p e))
 kept-else n p map false e h = rw e
 
 pub pinned : Pinned
-unfolding mapAfter
+unfolding map_after
 pinned =
     record {
       header = λ p. refl;
@@ -161,5 +161,5 @@ pinned =
       packet = packet-is;
       accepted-at = λ n p. (writes_at n p, at-writes n p);
       map-written = λ n p map w. rw (at-writes n p w);
-      map-kept = λ n p map h. kept-else n p map (acceptedAt n p) refl h;
+      map-kept = λ n p map h. kept-else n p map (accepted_at n p) refl h;
     }

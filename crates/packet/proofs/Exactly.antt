@@ -15,7 +15,7 @@ use Rattle.opcode.specs.Judgement.{judgement}
 use Rattle.opcode.specs.Allowed.{Allowed}
 use Rattle.opcode.proofs.Accepts.{accepts}
 use Rattle.wire.proofs.Tests.{silent-first, first-silent, option-true, option-false}
-use Rattle.packet.specs.Frame.{headerOf, opcode_of, optionsOf, data_of, dataSize, place}
+use Rattle.packet.specs.Frame.{header_of, opcode_of, options_of, data_of, data_size, place}
 use Rattle.packet.specs.Reading.{refusals, reading}
 use Rattle.packet.specs.Sound.{Taken}
 use Rattle.packet.proofs.Frames.{reading-number}
@@ -28,18 +28,18 @@ below-take (suc n) (x ∷ l) h zero = h 0
 below-take (suc n) (x ∷ l) h (suc k) = below-take n l (λ i. h (suc i)) k
 
 pub bytes-of-data : (p : List ℕ) → ((k : ℕ) → get_or p k 0 < 256) → (k : ℕ) → get_or (data_of p) k 0 < 256
-bytes-of-data p h k = below-take (dataSize p) (drop (place (headerOf p)) p) (λ i. rw get_or-drop (h _)) k
+bytes-of-data p h k = below-take (data_size p) (drop (place (header_of p)) p) (λ i. rw get_or-drop (h _)) k
 
 pub exactly : (p : List ℕ) → ((k : ℕ) → get_or p k 0 < 256) → ((reading p).number ≡ 0) ↔ Taken p
 unfolding judgement
 exactly p h = (λ n. to (sym (reading-number p) ∙ n), λ t. reading-number p ∙ from t)
   where
     rest : List (ℕ × Bool)
-    rest = judgement (opcode_of p) (optionsOf p) (data_of p)
+    rest = judgement (opcode_of p) (options_of p) (data_of p)
 
     allows : (first rest ≡ 0)
-        ↔ Allowed (opcode_of p) (optionsOf p) (data_of p)
-    allows = accepts (opcode_of p) (optionsOf p) (data_of p) (bytes-of-data p h)
+        ↔ Allowed (opcode_of p) (options_of p) (data_of p)
+    allows = accepts (opcode_of p) (options_of p) (data_of p) (bytes-of-data p h)
 
     to : first (refusals p) ≡ 0 → Taken p
     to n =

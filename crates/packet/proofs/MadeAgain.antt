@@ -13,12 +13,12 @@ use lib.Dec.{eqb}
 use Rattle.wire.specs.Numbers.{byte_at, word_at, word_bytes}
 use Rattle.wire.specs.Checksum.{checksum}
 use Rattle.wire.specs.Buffers.{over}
-use Rattle.opcode.specs.Options.{twoByte, hasLength, hasChecksum, optionsIn}
+use Rattle.opcode.specs.Options.{two_byte, has_length, has_checksum, options_in}
 use Rattle.opcode.specs.Judgement.{judgement}
 use Rattle.opcode.proofs.Below.{carried-below}
-use Rattle.packet.specs.Frame.{headerOf, opcode_of, place, fields, dataSize, data_of}
-use Rattle.packet.specs.Reading.{tooShort, tooLong, lengthDiffers, checksumDiffers, elsewhere, reading}
-use Rattle.packet.specs.Making.{present, headBytes, packetOf}
+use Rattle.packet.specs.Frame.{header_of, opcode_of, place, fields, data_size, data_of}
+use Rattle.packet.specs.Reading.{too_short, too_long, length_differs, checksum_differs, elsewhere, reading}
+use Rattle.packet.specs.Making.{present, head_bytes, packet_of}
 use Rattle.packet.specs.Promises.{MadeAgain}
 use Rattle.packet.proofs.Frames.{Passed, none_of, reading-number, accepted}
 use Rattle.packet.proofs.Makes.{made-whole}
@@ -78,60 +78,60 @@ seal-alike e f = rw (e, f)
 
 -- The packet's parts, from what stands in it.
 module _ (p : List ℕ) (bytes : (k : ℕ) → byte_at p k < 256)
-    (tests : Passed (tooShort p) (tooLong p) (lengthDiffers p) (checksumDiffers p) (elsewhere p)) (below : opcode_of p < 256) where
-  enough : fields (headerOf p) ≤ length p
-  enough = ltb-false (length p) (fields (headerOf p)) tests.no-2
+    (tests : Passed (too_short p) (too_long p) (length_differs p) (checksum_differs p) (elsewhere p)) (below : opcode_of p < 256) where
+  enough : fields (header_of p) ≤ length p
+  enough = ltb-false (length p) (fields (header_of p)) tests.no-2
 
-  header-again : 4 + optionsIn (headerOf p) ≡ headerOf p
-  header-again = let here = eqb-true (headerOf p % 8) 4 (not-false (eqb (headerOf p % 8) 4) tests.no-6) in omega arith
+  header-again : 4 + options_in (header_of p) ≡ header_of p
+  header-again = let here = eqb-true (header_of p % 8) 4 (not-false (eqb (header_of p % 8) 4) tests.no-6) in omega arith
 
-  none_above : twoByte (headerOf p) * byte_at p 2 ≡ 0
+  none_above : two_byte (header_of p) * byte_at p 2 ≡ 0
   none_above = omega arith
 
   opcode-again : opcode_of p ≡ byte_at p 1
   opcode-again = omega (arith, none_above)
 
-  data-long : length (data_of p) ≡ dataSize p
-  data-long = length-take-le (dataSize p) (drop (place (headerOf p)) p) (rw length-drop (omega (arith, enough)))
+  data-long : length (data_of p) ≡ data_size p
+  data-long = length-take-le (data_size p) (drop (place (header_of p)) p) (rw length-drop (omega (arith, enough)))
 
-  options-again : optionsIn (optionsIn (headerOf p)) ≡ optionsIn (headerOf p)
+  options-again : options_in (options_in (header_of p)) ≡ options_in (header_of p)
   options-again = omega arith
 
-  head-parts : take (place (headerOf p)) p
-      ≡ (byte_at p 0 ∷ byte_at p 1 ∷ present (twoByte (headerOf p)) (0 ∷ [])) ++ present (hasLength (headerOf p)) (word_bytes (dataSize p))
+  head-parts : take (place (header_of p)) p
+      ≡ (byte_at p 0 ∷ byte_at p 1 ∷ present (two_byte (header_of p)) (0 ∷ [])) ++ present (has_length (header_of p)) (word_bytes (data_size p))
   head-parts =
-      let t : ℕ = twoByte (headerOf p) in
-      let l : ℕ = hasLength (headerOf p) in
+      let t : ℕ = two_byte (header_of p) in
+      let l : ℕ = has_length (header_of p) in
       let up : take t (drop 2 p) ≡ present t (0 ∷ []) =
       high t (drop 2 p) (omega arith) (rw length-drop (omega (arith, enough))) (rw (byte-drop 2 p) none_above) in
-      let sized : take (2 * l) (drop (2 + t) p) ≡ present l (word_bytes (dataSize p)) =
-      size l (dataSize p) (word_at p (2 + t)) (drop (2 + t) p) (omega arith) (rw length-drop (omega (arith, enough)))
+      let sized : take (2 * l) (drop (2 + t) p) ≡ present l (word_bytes (data_size p)) =
+      size l (data_size p) (word_at p (2 + t)) (drop (2 + t) p) (omega arith) (rw length-drop (omega (arith, enough)))
       (rw (byte-drop (2 + t) p) (bytes (2 + t))) (word-drop (2 + t) p) tests.no-4 in
       take-add (2 + t) (2 * l) p ∙ rw (take-add 2 t p, first_two p (omega (arith, enough)), up, sized)
 
   -- The packet made from what stands in the packet is the packet.
-  pub packet-again : packetOf (opcode_of p) (optionsIn (headerOf p)) (data_of p) ≡ p
-  unfolding packetOf
+  pub packet-again : packet_of (opcode_of p) (options_in (header_of p)) (data_of p) ≡ p
+  unfolding packet_of
   packet-again =
-      let o : ℕ = optionsIn (headerOf p) in
-      let two : twoByte o ≡ twoByte (headerOf p) = rw header-again at (sym (two-same o options-again)) in
-      let long : hasLength o ≡ hasLength (headerOf p) = rw header-again at (sym (length-same o options-again)) in
-      let sum : hasChecksum o ≡ hasChecksum (headerOf p) = rw header-again at (sym (sum_same o options-again)) in
-      let end : length p - hasChecksum (headerOf p) ≡ place (headerOf p) + dataSize p = omega (arith, enough) in
-      let front : headBytes (opcode_of p) o (length (data_of p)) ++ data_of p ≡ take (length p - hasChecksum (headerOf p)) p =
-      ap (λ (n : ℕ). headBytes (opcode_of p) o n ++ data_of p) data-long
-      ∙ ap (λ (s : List ℕ). s ++ data_of p) (head-alike (dataSize p) header-again opcode-again two long ∙ sym head-parts)
-      ∙ sym (rw end (take-add (place (headerOf p)) (dataSize p) p)) in
-      seal-alike front sum ∙ summed (hasChecksum (headerOf p)) p (omega arith) (omega (arith, enough)) tests.no-5
+      let o : ℕ = options_in (header_of p) in
+      let two : two_byte o ≡ two_byte (header_of p) = rw header-again at (sym (two-same o options-again)) in
+      let long : has_length o ≡ has_length (header_of p) = rw header-again at (sym (length-same o options-again)) in
+      let sum : has_checksum o ≡ has_checksum (header_of p) = rw header-again at (sym (sum_same o options-again)) in
+      let end : length p - has_checksum (header_of p) ≡ place (header_of p) + data_size p = omega (arith, enough) in
+      let front : head_bytes (opcode_of p) o (length (data_of p)) ++ data_of p ≡ take (length p - has_checksum (header_of p)) p =
+      ap (λ (n : ℕ). head_bytes (opcode_of p) o n ++ data_of p) data-long
+      ∙ ap (λ (s : List ℕ). s ++ data_of p) (head-alike (data_size p) header-again opcode-again two long ∙ sym head-parts)
+      ∙ sym (rw end (take-add (place (header_of p)) (data_size p) p)) in
+      seal-alike front sum ∙ summed (has_checksum (header_of p)) p (omega arith) (omega (arith, enough)) tests.no-5
 
 -- What is read of a packet makes the same packet, and writes it over the buffer.
 pub made_again : (p buffer : List ℕ) → ((k : ℕ) → byte_at p k < 256) → (reading p).number ≡ 0 → 512 ≤ length buffer → MadeAgain p (reading p) buffer
 made_again p buffer bytes read room =
     let none = sym (reading-number p) ∙ read in
     let op : ℕ = opcode_of p in
-    let o : ℕ = optionsIn (headerOf p) in
+    let o : ℕ = options_in (header_of p) in
     let d : List ℕ = data_of p in
-    let failed = none_of (tooShort p) (tooLong p) (lengthDiffers p) (checksumDiffers p) (elsewhere p) (judgement op o d) none in
+    let failed = none_of (too_short p) (too_long p) (length_differs p) (checksum_differs p) (elsewhere p) (judgement op o d) none in
     let again = packet-again p bytes failed.0 (carried-below op o d failed.1) in
     let short = ltb-false 512 (length p) failed.0.no-3 in
     let fit : fields o + length d ≤ 512 = omega (arith, length-packet op o d, ap length again) in

@@ -14,19 +14,19 @@ use Rattle.wire.specs.Buffers.{over}
 use Rattle.wire.specs.Plain.{Least}
 use Rattle.wire.proofs.Plain.{Each, first-applies}
 use Rattle.wire.proofs.Tests.{TestsTold, first-told, option-true}
-use Rattle.opcode.specs.Options.{optionsIn}
+use Rattle.opcode.specs.Options.{options_in}
 use Rattle.opcode.specs.Judgement.{judgement}
 use Rattle.opcode.proofs.Faults.{Located}
 use Rattle.opcode.proofs.Numbers.{CommandNumber}
 use Rattle.opcode.specs.Plain.{CommandRefuses, not_carried, lacks-length, wrong_size, out_of_range, merges}
 use Rattle.opcode.proofs.Plain.{command-passed}
-use Rattle.packet.specs.Frame.{headerOf, opcode_of, optionsOf, data_of, place, fields, announced}
-use Rattle.packet.specs.Reading.{Answer, frameRefusals, refusals, answered, reading}
-use Rattle.packet.specs.Making.{Made, packetOf, makeRefusals, madeBy, made}
+use Rattle.packet.specs.Frame.{header_of, opcode_of, options_of, data_of, place, fields, announced}
+use Rattle.packet.specs.Reading.{Answer, frame_refusals, refusals, answered, reading}
+use Rattle.packet.specs.Making.{Made, packet_of, make_refusals, made-by, made}
 use Rattle.packet.specs.Plain.{Refuses, too_short, too_long, other_length, other-sum, elsewhere, command, ReadPlain}
 use Rattle.packet.specs.Plain.{MakeRefuses, no_room, MakePlain, AnnouncedPlain}
 use Rattle.packet.proofs.Frames.{reading-number, accepted}
-use Rattle.packet.proofs.Makes.{makeFront, made_by}
+use Rattle.packet.proofs.Makes.{make_front, made-by}
 use Rattle.packet.proofs.MadeReads.{made-number}
 
 -- What a number that was given says of a command.
@@ -60,13 +60,13 @@ unfolding reading
 read-alone p h = alone (first (refusals p)) p (eqb (first (refusals p)) 0) refl h
 
 module _ (p : List ℕ) where
-  frame-rows : TestsTold (reading p).number (frameRefusals p)
+  frame-rows : TestsTold (reading p).number (frame_refusals p)
   unfolding judgement
-  frame-rows = rw (reading-number p) (first-told 1 [] (frameRefusals p) (judgement (opcode_of p) (optionsOf p) (data_of p)) tt (omega arith))
+  frame-rows = rw (reading-number p) (first-told 1 [] (frame_refusals p) (judgement (opcode_of p) (options_of p) (data_of p)) tt (omega arith))
 
   module _
-      (c : CommandNumber (opcode_of p) (optionsOf p) (data_of p) (reading p).number)
-      (l : Located (opcode_of p) (optionsOf p) (data_of p) (reading p).number (reading p).fault-place) where
+      (c : CommandNumber (opcode_of p) (options_of p) (data_of p) (reading p).number)
+      (l : Located (opcode_of p) (options_of p) (data_of p) (reading p).number (reading p).fault-place) where
     -- A number that is given applies.
     given : Each (λ (k : ℕ). (reading p).number ≡ k → Refuses p k) (refusals p)
     unfolding judgement
@@ -94,7 +94,7 @@ module _ (p : List ℕ) where
 
     -- One that is passed does not.
     passed : {k : ℕ} → ((reading p).number ≡ 0) ⊎ (k < (reading p).number) → Refuses p k → ⊥
-    passed b (too_short h) = let w : fields (headerOf p) ≤ length p = ltb-false _ _ (frame-rows.0.passed b) in omega arith
+    passed b (too_short h) = let w : fields (header_of p) ≤ length p = ltb-false _ _ (frame-rows.0.passed b) in omega arith
     passed b (too_long h) = let w : length p ≤ 512 = ltb-false _ _ (frame-rows.1.0.passed b) in omega arith
     passed b (other_length o h) = h (eqb-true _ _ (option-true _ _ (frame-rows.1.1.0.passed b) (eq-eqb _ _ o)))
     passed b (other-sum o h) = h (eqb-true _ _ (option-true _ _ (frame-rows.1.1.1.0.passed b) (eq-eqb _ _ o)))
@@ -123,22 +123,22 @@ module _ (p : List ℕ) where
 
 -- ---- Making.
 
-unmade : (op options : ℕ) (d buffer : List ℕ) (n : ℕ) (b : Bool) → eqb n 0 ≡ b → ((madeBy n op options d buffer).status ≡ 0 → ⊥)
-    → ((madeBy n op options d buffer).size ≡ 0) × ((madeBy n op options d buffer).buffer ≡ buffer)
+unmade : (op options : ℕ) (d buffer : List ℕ) (n : ℕ) (b : Bool) → eqb n 0 ≡ b → ((made-by n op options d buffer).status ≡ 0 → ⊥)
+    → ((made-by n op options d buffer).size ≡ 0) × ((made-by n op options d buffer).buffer ≡ buffer)
 unmade op options d buffer n true e h = absurd (h (rw e))
 unmade op options d buffer n false e h = rw e (refl, refl)
 
 module _ (op options : ℕ) (d buffer : List ℕ)
-    (c : CommandNumber op (optionsIn options) d (made op options d buffer).status)
-    (l : Located op (optionsIn options) d (made op options d buffer).status (made op options d buffer).fault-place) where
-  front-rows : TestsTold (made op options d buffer).status (makeFront (optionsIn options) d (length buffer))
+    (c : CommandNumber op (options_in options) d (made op options d buffer).status)
+    (l : Located op (options_in options) d (made op options d buffer).status (made op options d buffer).fault-place) where
+  front-rows : TestsTold (made op options d buffer).status (make_front (options_in options) d (length buffer))
   unfolding judgement
   front-rows =
       rw (made-number op options d buffer)
-      (first-told 0 [] (makeFront (optionsIn options) d (length buffer)) (judgement op (optionsIn options) d) tt (omega arith))
+      (first-told 0 [] (make_front (options_in options) d (length buffer)) (judgement op (options_in options) d) tt (omega arith))
 
-  make-given : Each (λ (k : ℕ). (made op options d buffer).status ≡ k → MakeRefuses op (optionsIn options) d (length buffer) k)
-      (makeRefusals op (optionsIn options) d (length buffer))
+  make-given : Each (λ (k : ℕ). (made op options d buffer).status ≡ k → MakeRefuses op (options_in options) d (length buffer) k)
+      (make_refusals op (options_in options) d (length buffer))
   unfolding judgement
   make-given =
       let f = front-rows in
@@ -160,10 +160,10 @@ module _ (op options : ℕ) (d buffer : List ℕ)
       )
 
   make-passed : {k : ℕ} → ((made op options d buffer).status ≡ 0) ⊎ (k < (made op options d buffer).status)
-      → MakeRefuses op (optionsIn options) d (length buffer) k → ⊥
+      → MakeRefuses op (options_in options) d (length buffer) k → ⊥
   make-passed b (no_room h) = let w : 512 ≤ length buffer = ltb-false _ _ (front-rows.0.passed b) in omega arith
   make-passed b (MakeRefuses.too_long h) =
-      let w : fields (optionsIn options) + length d ≤ 512 = ltb-false _ _ (front-rows.1.0.passed b) in omega arith
+      let w : fields (options_in options) + length d ≤ 512 = ltb-false _ _ (front-rows.1.0.passed b) in omega arith
   make-passed b (MakeRefuses.command r) = command-passed c l b r
 
   pub make-plain : MakePlain op options d buffer (made op options d buffer)
@@ -173,22 +173,22 @@ module _ (op options : ℕ) (d buffer : List ℕ)
         number =
             record {
               applies =
-                  first-applies (MakeRefuses op (optionsIn options) d (length buffer))
-                  (makeRefusals op (optionsIn options) d (length buffer)) (made-number op options d buffer) make-given;
+                  first-applies (MakeRefuses op (options_in options) d (length buffer))
+                  (make_refusals op (options_in options) d (length buffer)) (made-number op options d buffer) make-given;
               passed = λ b r. make-passed b r;
             };
         fault-place = l.first;
         no-fault = l.none;
         size = λ z. ap (λ (m : Made). m.size) (whole z);
         written = λ z. ap (λ (m : Made). m.buffer) (whole z);
-        refused = rw (made_by op options d buffer (first (makeRefusals op (optionsIn options) d (length buffer))) refl)
-            (unmade op (optionsIn options) d buffer (first (makeRefusals op (optionsIn options) d (length buffer))) (eqb (first (makeRefusals op (optionsIn options) d (length buffer))) 0) refl);
+        refused = rw (made-by op options d buffer (first (make_refusals op (options_in options) d (length buffer))) refl)
+            (unmade op (options_in options) d buffer (first (make_refusals op (options_in options) d (length buffer))) (eqb (first (make_refusals op (options_in options) d (length buffer))) 0) refl);
       }
     where
       whole : (made op options d buffer).status ≡ 0
           → made op options d buffer
-          ≡ record { status = 0; fault-place = 0; size = length (packetOf op (optionsIn options) d); buffer = over (packetOf op (optionsIn options) d) buffer }
-      whole z = made_by op options d buffer 0 (sym (made-number op options d buffer) ∙ z)
+          ≡ record { status = 0; fault-place = 0; size = length (packet_of op (options_in options) d); buffer = over (packet_of op (options_in options) d) buffer }
+      whole z = made-by op options d buffer 0 (sym (made-number op options d buffer) ∙ z)
 
 -- ---- What a packet announces: the length field's number, taken once or not at all.
 

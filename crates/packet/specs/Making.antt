@@ -5,8 +5,8 @@ use Rattle.wire.specs.Numbers.{word_bytes}
 use Rattle.wire.specs.Checksum.{sealed}
 use Rattle.wire.specs.First.{first}
 use Rattle.wire.specs.Buffers.{over}
-use Rattle.opcode.specs.Options.{twoByte, hasLength, hasChecksum, optionsIn}
-use Rattle.opcode.specs.Judgement.{judgement, faultPlace}
+use Rattle.opcode.specs.Options.{two_byte, has_length, has_checksum, options_in}
+use Rattle.opcode.specs.Judgement.{judgement, fault_place}
 use Rattle.packet.specs.Frame.{fields}
 
 -- Bytes that an option asks for.
@@ -14,16 +14,16 @@ abbrev pub present : ℕ → List ℕ → List ℕ
 present option s = cond (eqb option 1) s []
 
 -- Rule 4.4: header, opcode and length field of a packet with n bytes of data, for destination 4.
-abbrev pub headBytes : ℕ → ℕ → ℕ → List ℕ
-headBytes op o n = ((4 + o) ∷ op ∷ present (twoByte o) (0 ∷ [])) ++ present (hasLength o) (word_bytes n)
+abbrev pub head_bytes : ℕ → ℕ → ℕ → List ℕ
+head_bytes op o n = ((4 + o) ∷ op ∷ present (two_byte o) (0 ∷ [])) ++ present (has_length o) (word_bytes n)
 
 -- Rule 2.1: the packet's fields, in their order.
-unfoldable pub packetOf : ℕ → ℕ → List ℕ → List ℕ
-packetOf op o d = sealed (eqb (hasChecksum o) 1) (headBytes op o (length d) ++ d)
+unfoldable pub packet_of : ℕ → ℕ → List ℕ → List ℕ
+packet_of op o d = sealed (eqb (has_checksum o) 1) (head_bytes op o (length d) ++ d)
 
 -- Rule 4.4: the refusals of making, in order, for a buffer of so many bytes. An opcode over 255 is not carried, so it is 7.
-abbrev pub makeRefusals : ℕ → ℕ → List ℕ → ℕ → List (ℕ × Bool)
-makeRefusals op o d room = (1, ltb room 512) ∷ (3, ltb 512 (fields o + length d)) ∷ judgement op o d
+abbrev pub make_refusals : ℕ → ℕ → List ℕ → ℕ → List (ℕ × Bool)
+make_refusals op o d room = (1, ltb room 512) ∷ (3, ltb 512 (fields o + length d)) ∷ judgement op o d
 
 -- Rule 4.4: what making answers, with the place of a refusal by 10 (rule 4.6), and the buffer as it is left.
 pub record Made : Type 0 where
@@ -33,13 +33,13 @@ pub record Made : Type 0 where
   pub buffer : List ℕ
 
 -- Rule 4.4: what is made leaves the buffer behind it; a refusal has length 0 and leaves the whole buffer.
-abbrev pub madeBy : ℕ → ℕ → ℕ → List ℕ → List ℕ → Made
-madeBy n op o d buffer =
+abbrev pub made-by : ℕ → ℕ → ℕ → List ℕ → List ℕ → Made
+made-by n op o d buffer =
     cond (eqb n 0)
-    (record { status = 0; fault-place = 0; size = length (packetOf op o d); buffer = over (packetOf op o d) buffer })
-    (record { status = n; fault-place = faultPlace n op o d; size = 0; buffer = buffer })
+    (record { status = 0; fault-place = 0; size = length (packet_of op o d); buffer = over (packet_of op o d) buffer })
+    (record { status = n; fault-place = fault_place n op o d; size = 0; buffer = buffer })
 
 -- Rule 2.2: of the options only bits 3 to 7 are looked at.
 unfoldable pub made : ℕ → ℕ → List ℕ → List ℕ → Made
 made op options d buffer =
-    madeBy (first (makeRefusals op (optionsIn options) d (length buffer))) op (optionsIn options) d buffer
+    made-by (first (make_refusals op (options_in options) d (length buffer))) op (options_in options) d buffer

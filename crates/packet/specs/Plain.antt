@@ -8,37 +8,37 @@ use Rattle.wire.specs.Numbers.{byte_at, word_at}
 use Rattle.wire.specs.Tables.{words}
 use Rattle.wire.specs.Checksum.{checksum}
 use Rattle.wire.specs.Plain.{Least, Bytes}
-use Rattle.opcode.specs.Options.{hasLength, hasChecksum, isRead, destination, optionsIn}
+use Rattle.opcode.specs.Options.{has_length, has_checksum, is_read, destination, options_in}
 use Rattle.opcode.specs.Faults.{FirstFault}
 use Rattle.opcode.specs.Plain.{CommandRefuses}
 use Rattle.packet.specs.declared.Reading.TheVariants.{Command, Refused}
-use Rattle.packet.specs.Frame.{headerOf, opcode_of, optionsOf, lengthPlace, place, fields, data_of}
+use Rattle.packet.specs.Frame.{header_of, opcode_of, options_of, length_place, place, fields, data_of}
 use Rattle.packet.specs.Reading.{Answer, reading, answer}
-use Rattle.packet.specs.Making.{packetOf, Made}
-use Rattle.packet.specs.Points.{acceptedAt, mapAfter}
+use Rattle.packet.specs.Making.{packet_of, Made}
+use Rattle.packet.specs.Points.{accepted_at, map_after}
 
 -- ---- Reading, rule 2.6.
 
 -- Rule 4.1: when each of the refusals 2 to 11 applies to a packet, whatever the others do.
 pub data Refuses (p : List ℕ) : ℕ → Type 0 where
-  too_short : length p < fields (headerOf p) → Refuses p 2
+  too_short : length p < fields (header_of p) → Refuses p 2
   too_long : 512 < length p → Refuses p 3
-  other_length : hasLength (headerOf p) ≡ 1 → (word_at p (lengthPlace (headerOf p)) ≡ length p - fields (headerOf p) → ⊥) → Refuses p 4
-  other-sum : hasChecksum (headerOf p) ≡ 1 → (byte_at p (length p - 1) ≡ checksum (take (length p - 1) p) → ⊥) → Refuses p 5
-  elsewhere : (destination (headerOf p) ≡ 4 → ⊥) → Refuses p 6
-  command : {n : ℕ} → CommandRefuses (opcode_of p) (optionsOf p) (data_of p) n → Refuses p n
+  other_length : has_length (header_of p) ≡ 1 → (word_at p (length_place (header_of p)) ≡ length p - fields (header_of p) → ⊥) → Refuses p 4
+  other-sum : has_checksum (header_of p) ≡ 1 → (byte_at p (length p - 1) ≡ checksum (take (length p - 1) p) → ⊥) → Refuses p 5
+  elsewhere : (destination (header_of p) ≡ 4 → ⊥) → Refuses p 6
+  command : {n : ℕ} → CommandRefuses (opcode_of p) (options_of p) (data_of p) n → Refuses p n
 
 pub record ReadPlain (p : List ℕ) (a : Answer) : Type 0 where
   -- The first refusal that applies; 0 where none does.
   pub number : Least (Refuses p) a.number
   -- Rule 4.6: 10 has the place of the first fault, nothing else has one.
-  pub fault-place : a.number ≡ 10 → FirstFault (opcode_of p) (optionsOf p) (data_of p) a.fault-place
+  pub fault-place : a.number ≡ 10 → FirstFault (opcode_of p) (options_of p) (data_of p) a.fault-place
   pub no-fault : (a.number ≡ 10 → ⊥) → a.fault-place ≡ 0
   -- Rules 2.2 to 2.4: opcode, options, and where the data stands; of a refusal nothing.
   pub opcode : a.number ≡ 0 → a.opcode ≡ opcode_of p
-  pub options : a.number ≡ 0 → a.options ≡ optionsOf p
-  pub at : a.number ≡ 0 → a.place ≡ place (headerOf p)
-  pub size : a.number ≡ 0 → a.size ≡ length p - fields (headerOf p)
+  pub options : a.number ≡ 0 → a.options ≡ options_of p
+  pub at : a.number ≡ 0 → a.place ≡ place (header_of p)
+  pub size : a.number ≡ 0 → a.size ≡ length p - fields (header_of p)
   pub nothing-else : (a.number ≡ 0 → ⊥) → (a.opcode ≡ 0) × (a.options ≡ 0) × (a.place ≡ 0) × (a.size ≡ 0)
 
 -- ---- Making, rule 4.4, from an opcode, options in place and data, in a buffer of so many bytes.
@@ -49,14 +49,14 @@ pub data MakeRefuses (op o : ℕ) (d : List ℕ) (room : ℕ) : ℕ → Type 0 w
   command : {n : ℕ} → CommandRefuses op o d n → MakeRefuses op o d room n
 
 pub record MakePlain (op options : ℕ) (d buffer : List ℕ) (m : Made) : Type 0 where
-  pub number : Least (MakeRefuses op (optionsIn options) d (length buffer)) m.status
-  pub fault-place : m.status ≡ 10 → FirstFault op (optionsIn options) d m.fault-place
+  pub number : Least (MakeRefuses op (options_in options) d (length buffer)) m.status
+  pub fault-place : m.status ≡ 10 → FirstFault op (options_in options) d m.fault-place
   pub no-fault : (m.status ≡ 10 → ⊥) → m.fault-place ≡ 0
   -- The packet is written over the start of the buffer; what lies behind it stays. A refusal has no
   -- length and leaves all.
-  pub size : m.status ≡ 0 → m.size ≡ length (packetOf op (optionsIn options) d)
+  pub size : m.status ≡ 0 → m.size ≡ length (packet_of op (options_in options) d)
   pub written : m.status ≡ 0
-      → m.buffer ≡ packetOf op (optionsIn options) d ++ drop (length (packetOf op (optionsIn options) d)) buffer
+      → m.buffer ≡ packet_of op (options_in options) d ++ drop (length (packet_of op (options_in options) d)) buffer
   pub refused : (m.status ≡ 0 → ⊥) → (m.size ≡ 0) × (m.buffer ≡ buffer)
 
 -- Rule 2.1: header, opcode (a high byte of 0 where it has two), the data's length where there is
@@ -68,8 +68,8 @@ unsealed op o d =
 -- ---- How many bytes a packet at the start of some bytes announces, rule 2.4.
 
 pub record AnnouncedPlain (p : List ℕ) (n : ℕ) : Type 0 where
-  pub with-length : hasLength (headerOf p) ≡ 1 → n ≡ fields (headerOf p) + word_at p (lengthPlace (headerOf p))
-  pub without : hasLength (headerOf p) ≡ 0 → n ≡ fields (headerOf p)
+  pub with-length : has_length (header_of p) ≡ 1 → n ≡ fields (header_of p) + word_at p (length_place (header_of p))
+  pub without : has_length (header_of p) ≡ 0 → n ≡ fields (header_of p)
   pub some : 2 ≤ n
   pub few : n ≤ 65541
 
@@ -78,19 +78,19 @@ pub record AnnouncedPlain (p : List ℕ) (n : ℕ) : Type 0 where
 pub record WritesAt (n : ℕ) (p : List ℕ) : Type 0 where
   pub taken : (reading p).number ≡ 0
   pub points : opcode_of p ≡ 0x34
-  pub write : isRead (headerOf p) ≡ 0
+  pub write : is_read (header_of p) ≡ 0
   pub within : word_at (data_of p) 0 + (length (data_of p) - 2) / 4 ≤ n
 
 -- ---- What the names mean that are cited here and above.
 
 pub record Pinned : Type 0 where
-  pub header : (p : List ℕ) → headerOf p ≡ get_or p 0 0
+  pub header : (p : List ℕ) → header_of p ≡ get_or p 0 0
   pub opcode : (p : List ℕ) → opcode_of p ≡ get_or p 1 0 + 256 * (get_or p 0 0 / 8 % 2 * get_or p 2 0)
-  pub options : (p : List ℕ) → optionsOf p ≡ get_or p 0 0 / 8 * 8
-  pub length_at : (h : ℕ) → lengthPlace h ≡ 2 + h / 8 % 2
+  pub options : (p : List ℕ) → options_of p ≡ get_or p 0 0 / 8 * 8
+  pub length_at : (h : ℕ) → length_place h ≡ 2 + h / 8 % 2
   pub data-at : (h : ℕ) → place h ≡ 2 + h / 8 % 2 + 2 * (h / 16 % 2)
   pub besides-data : (h : ℕ) → fields h ≡ 2 + h / 8 % 2 + 2 * (h / 16 % 2) + h / 32 % 2
-  pub content : (p : List ℕ) → data_of p ≡ take (length p - fields (headerOf p)) (drop (place (headerOf p)) p)
+  pub content : (p : List ℕ) → data_of p ≡ take (length p - fields (header_of p)) (drop (place (header_of p)) p)
   -- Number and values of each case of the code's answer.
   pub command-case : (op o at size : ℕ)
       → answer (Command op o at size) ≡ record { number = 0; fault-place = 0; opcode = op; options = o; place = at; size = size }
@@ -98,10 +98,10 @@ pub record Pinned : Type 0 where
       → answer (Refused why) ≡ record { number = why.number; fault-place = why.place; opcode = 0; options = 0; place = 0; size = 0 }
   pub read : (p : List ℕ) → Bytes p → ReadPlain p (reading p)
   -- Rules 2.1 and 2.5: behind these the checksum of them all, where there is one.
-  pub packet : (op o : ℕ) (d : List ℕ) → packetOf op o d ≡ unsealed op o d ++ take (o / 32 % 2) (checksum (unsealed op o d) ∷ [])
+  pub packet : (op o : ℕ) (d : List ℕ) → packet_of op o d ≡ unsealed op o d ++ take (o / 32 % 2) (checksum (unsealed op o d) ∷ [])
   -- Rules 5.4 and 7.1: a 34h write whose points lie within N writes them from its start on, two
   -- numbers a point; whatever else comes leaves the map.
-  pub accepted-at : (n : ℕ) (p : List ℕ) → (acceptedAt n p ≡ true) ↔ WritesAt n p
+  pub accepted-at : (n : ℕ) (p : List ℕ) → (accepted_at n p ≡ true) ↔ WritesAt n p
   pub map-written : (n : ℕ) (p map : List ℕ) → WritesAt n p
-      → mapAfter n p map ≡ paste map (2 * word_at (data_of p) 0) (words (drop 2 (data_of p))) (length (words (drop 2 (data_of p))))
-  pub map-kept : (n : ℕ) (p map : List ℕ) → (WritesAt n p → ⊥) → mapAfter n p map ≡ map
+      → map_after n p map ≡ paste map (2 * word_at (data_of p) 0) (words (drop 2 (data_of p))) (length (words (drop 2 (data_of p))))
+  pub map-kept : (n : ℕ) (p map : List ℕ) → (WritesAt n p → ⊥) → map_after n p map ≡ map

@@ -1,16 +1,18 @@
 // Packets: reading one for the front end, making one for the host.
+#![tactic(auto)]
+
 ghost use Rattle.std.specs.Prelude.{◌≡◌, cond, [], ◌∷◌, ◌+◌, ◌*◌, ◌<◌, ◌≤◌, length, take, eqb};
 ghost use Rattle.std.proofs.lemmas.List.Edits.{sets};
 ghost use Rattle.wire.specs.Numbers.{byte_at, word_at, word_bytes};
 ghost use Rattle.wire.specs.Checksum.{«checksum»};
 ghost use Rattle.wire.specs.Buffers.{Overwrites};
-ghost use Rattle.opcode.specs.Options.{twoByte, hasLength};
-ghost use Rattle.packet.specs.Reading.{answer, refusedBy, checksumDiffers};
+ghost use Rattle.opcode.specs.Options.{two_byte, has_length};
+ghost use Rattle.packet.specs.Reading.{answer, refused_by, «checksum_differs»};
 ghost use Rattle.packet.specs.Frame.{«fields», «announced»};
-ghost use Rattle.packet.specs.Making.{present, packetOf};
+ghost use Rattle.packet.specs.Making.{present, packet_of};
 ghost use Rattle.packet.specs.Promises.{PacketRead, PacketMade};
 ghost use Rattle.packet.specs.Plain.{AnnouncedPlain};
-ghost use Rattle.packet.specs.Internal.{framed, frameAnswer};
+ghost use Rattle.packet.specs.Internal.{framed, frame_answer};
 
 use opcode::bits;
 use wire::{LONGEST, Refusal};
@@ -79,9 +81,9 @@ impl Cursor {
     // One byte, or two if the header says so.
     fn opcode(self, packet: &[u8], header: usize) -> Step
         requires { self.at ≤ 512 }
-        ensures { (result.value ≡ byte_at packet.now self.at + 256 * (twoByte header * byte_at
+        ensures { (result.value ≡ byte_at packet.now self.at + 256 * (two_byte header * byte_at
             packet.now (self.at + 1)))
-            × (result.value < 65536) × (result.next.at ≡ self.at + 1 + twoByte header) }
+            × (result.value < 65536) × (result.next.at ≡ self.at + 1 + two_byte header) }
     {
         let at = self.at;
         if header / bits::TWO_BYTE % 2 == 1 {
@@ -99,8 +101,8 @@ impl Cursor {
     // The length field; where the header announces none, the number of data bytes there.
     fn length(self, packet: &[u8], header: usize, there: usize) -> Step
         requires { self.at ≤ 512 }
-        ensures { (result.value ≡ cond (eqb (hasLength header) 1) (word_at packet.now self.at) there)
-            × (result.next.at ≡ self.at + 2 * hasLength header) × (there < 65536 → result.value < 65536) }
+        ensures { (result.value ≡ cond (eqb (has_length header) 1) (word_at packet.now self.at) there)
+            × (result.next.at ≡ self.at + 2 * has_length header) × (there < 65536 → result.value < 65536) }
     {
         let at = self.at;
         if header / bits::LENGTH % 2 == 1 {
@@ -156,7 +158,7 @@ pub fn read(packet: &[u8]) -> Reading
 
 // The refusal of a frame, as a reading.
 fn refused(frame: Frame) -> Reading
-    ensures { answer result ≡ refusedBy (frameAnswer frame).number (frameAnswer frame).fault-place }
+    ensures { answer result ≡ refused_by (frame_answer frame).number (frame_answer frame).fault-place }
 {
     match frame {
         Frame::Broken(why) => Reading::Refused(why),
@@ -170,7 +172,7 @@ fn refused(frame: Frame) -> Reading
 }
 
 fn broken(number: u8) -> Frame
-    ensures { frameAnswer result ≡ refusedBy number 0 }
+    ensures { frame_answer result ≡ refused_by number 0 }
 {
     Frame::Broken(Refusal::by(number))
 }
@@ -195,7 +197,7 @@ pub fn announced(bytes: &[u8]) -> usize
 
 // Steps through header, opcode and length, and tests the frame: refusals 2 to 6.
 fn frame_of(packet: &[u8]) -> Frame
-    ensures { frameAnswer result ≡ framed packet.now }
+    ensures { frame_answer result ≡ framed packet.now }
 {
     let start = Cursor::new().header(packet);
     let header = start.value;
@@ -229,7 +231,7 @@ fn frame_of(packet: &[u8]) -> Frame
 // Whether the last byte differs from the checksum of those before it, where the header announces one.
 fn checksum_differs(packet: &[u8], header: usize) -> bool
     requires { (header ≡ byte_at packet.now 0) × (1 < length packet.now) }
-    ensures { result ≡ checksumDiffers packet.now }
+    ensures { result ≡ «checksum_differs» packet.now }
 {
     if header / bits::CHECKSUM % 2 == 0 {
         return false;
@@ -273,7 +275,7 @@ pub fn make(opcode: u16, options: u8, data: &[u8], buffer: &mut [u8]) -> Made
 // Writes a packet that fits, field by field, and answers its size.
 fn write_packet(buffer: &mut [u8], opcode: usize, o: usize, data: &[u8]) -> usize
     requires { (opcode < 256) × (o ≤ 248) × (512 ≤ length buffer.old) × («fields» o + length «data».now ≤ 512) }
-    ensures { Overwrites result (packetOf opcode o «data».now) buffer.old buffer.new }
+    ensures { Overwrites result (packet_of opcode o «data».now) buffer.old buffer.new }
 {
     wire::put_byte(buffer, 0, 4 + o);
     wire::put_byte(buffer, 1, opcode);

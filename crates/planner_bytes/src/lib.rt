@@ -1,9 +1,11 @@
 // Upload planning on lists that are lent as their bytes, low byte first. It works where the bytes lie: each function here reads or writes numbers
 // in place, and its promise speaks of the numbers that the bytes hold.
+#![tactic(auto)]
+
 ghost use Rattle.std.specs.Prelude.{◌≡◌, false, [], ◌∷◌, ◌+◌, ◌*◌, ◌%◌, ◌≤◌, ◌<◌, length, get_or, set};
 ghost use Rattle.std.proofs.lemmas.List.Edits.{sets};
 ghost use Rattle.wire.specs.Tables.{words, longs};
-ghost use Rattle.upload.specs.Sizes.{planSize, batchSize};
+ghost use Rattle.upload.specs.Sizes.{plan_size, batch_size};
 ghost use Rattle.upload.specs.Cost.{differs};
 ghost use Rattle.upload.specs.Plan.{followed};
 ghost use Rattle.upload.specs.Plain.{MapsLent};
@@ -92,8 +94,8 @@ fn put_part(plan: &mut [u8], p: usize, start: usize, count: usize)
 fn write(wanted: &[u8], plan: &mut [u8], choices: &[u8], batch: &mut [u8]) -> Answer
     requires { Followable choices.now
         × (length wanted.now ≡ 4 * length choices.now)
-        × (length plan.old ≡ 2 * planSize)
-        × (batchSize ≤ length batch.old) }
+        × (length plan.old ≡ 2 * plan_size)
+        × (batch_size ≤ length batch.old) }
     ensures { (result.status ≡ 0)
         × PlanWritten (words wanted.now) (followed 0 0 choices.now) (words plan.old) batch.old
         (words plan.new) batch.new result.packets result.bytes }

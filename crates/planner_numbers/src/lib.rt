@@ -1,7 +1,9 @@
 // Upload planning on lists of numbers: maps and plan of 16 bits, working room of 32 bits, choices of bytes.
+#![tactic(auto)]
+
 ghost use Rattle.std.specs.Prelude.{◌≡◌, false, [], ◌∷◌, ◌+◌, ◌*◌, ◌%◌, ◌≤◌, ◌<◌, length, get_or, set, replicate};
 ghost use Rattle.std.proofs.lemmas.List.Edits.{sets};
-ghost use Rattle.upload.specs.Sizes.{planSize, batchSize};
+ghost use Rattle.upload.specs.Sizes.{plan_size, batch_size};
 ghost use Rattle.upload.specs.Cost.{differs};
 ghost use Rattle.upload.specs.Plan.{followed};
 ghost use Rattle.upload.specs.Plain.{MapsLent};
@@ -78,8 +80,8 @@ fn put_part(plan: &mut [u16], p: usize, start: usize, count: usize)
 fn write(wanted: &[u16], plan: &mut [u16], choices: &[u8], batch: &mut [u8]) -> Answer
     requires { Followable choices.now
         × (length wanted.now ≡ 2 * length choices.now)
-        × (length plan.old ≡ planSize)
-        × (batchSize ≤ length batch.old) }
+        × (length plan.old ≡ plan_size)
+        × (batch_size ≤ length batch.old) }
     ensures { (result.status ≡ 0)
         × PlanWritten wanted.now (followed 0 0 choices.now) plan.old batch.old
         plan.new batch.new result.packets result.bytes }

@@ -4,8 +4,8 @@ use Rattle.upload.specs.Internal as upload
 use Rattle.planning.specs.declared.Lengths.{Lengths}
 use Rattle.planning.specs.declared.CostBehind.{CostBehind}
 
-abbrev pub lengthsIn : Lengths → planning.Lengths
-lengthsIn l = planning.lengths l.held l.wanted l.plan l.room l.choices l.batch
+abbrev pub lengths_in : Lengths → planning.Lengths
+lengths_in l = planning.lengths l.held l.wanted l.plan l.room l.choices l.batch
 
-abbrev pub costIn : CostBehind → upload.CostBehind
-costIn p = upload.costs p.least p.two p.four p.six
+abbrev pub cost_in : CostBehind → upload.CostBehind
+cost_in p = upload.costs p.least p.two p.four p.six

@@ -1,10 +1,12 @@
 // What both planners share: the numbers of planning, its answer and its refusals, and what is carried from the last point back.
+#![tactic(auto)]
+
 ghost use Rattle.std.specs.Prelude.{◌≡◌, min, ◌≤◌, set};
 ghost use Rattle.wire.specs.First.{first};
-ghost use Rattle.upload.specs.Sizes.{mostCount};
-ghost use Rattle.upload.specs.Internal.{atEnd, passed, opened, Bounded, PointChosen};
-ghost use Rattle.upload.specs.Planning.{pointsWrong, lengthsWrong, refusalsOf};
-ghost use Rattle.planning.specs.Internal.{lengthsIn, costIn};
+ghost use Rattle.upload.specs.Sizes.{most_count};
+ghost use Rattle.upload.specs.Internal.{«at_end», passed, opened, Bounded, PointChosen};
+ghost use Rattle.upload.specs.Planning.{«points_wrong», «lengths_wrong», refusals_of};
+ghost use Rattle.planning.specs.Internal.{lengths_in, cost_in};
 
 // The points of a full map.
 pub const MOST_POINTS: u32 = 1984;
@@ -44,13 +46,13 @@ pub struct Lengths {
 }
 
 fn points_wrong(points: u32) -> bool
-    ensures { result ≡ pointsWrong points }
+    ensures { result ≡ «points_wrong» points }
 {
     (points == 0) | (MOST_POINTS < points)
 }
 
 fn lengths_wrong(lent: Lengths, asked: Lengths) -> bool
-    ensures { result ≡ lengthsWrong (lengthsIn lent) (lengthsIn asked) }
+    ensures { result ≡ «lengths_wrong» (lengths_in lent) (lengths_in asked) }
 {
     !((lent.held == asked.held)
         & (lent.wanted == asked.wanted)
@@ -62,7 +64,7 @@ fn lengths_wrong(lent: Lengths, asked: Lengths) -> bool
 
 // Refusal 10 for a number of points that no map has, then 1 for a wrong length, 0 for neither.
 pub fn refusal(points: u32, lent: Lengths, asked: Lengths) -> u8
-    ensures { result ≡ first (refusalsOf points (lengthsIn lent) (lengthsIn asked)) }
+    ensures { result ≡ first (refusals_of points (lengths_in lent) (lengths_in asked)) }
 {
     if points_wrong(points) {
         return 10;
@@ -92,7 +94,7 @@ pub struct CostBehind {
 
 // Behind the last point.
 pub fn at_end() -> CostBehind
-    ensures { costIn result ≡ atEnd }
+    ensures { cost_in result ≡ «at_end» }
 {
     CostBehind {
         least: 0,
@@ -104,8 +106,8 @@ pub fn at_end() -> CostBehind
 
 // At a point that does not differ.
 fn passed(p: CostBehind) -> CostBehind
-    requires { Bounded (costIn p) }
-    ensures { costIn result ≡ passed (costIn p) }
+    requires { Bounded (cost_in p) }
+    ensures { cost_in result ≡ passed (cost_in p) }
 {
     CostBehind {
         least: p.least,
@@ -118,8 +120,8 @@ fn passed(p: CostBehind) -> CostBehind
 // At a point that differs, where a packet of `six` points would begin: the point's 4 bytes, and of the 6 in front of a packet's points those that
 // it does not save.
 fn opened(p: CostBehind) -> CostBehind
-    requires { Bounded (costIn p) }
-    ensures { (costIn result ≡ opened (costIn p)) × (result.six ≤ mostCount) }
+    requires { Bounded (cost_in p) }
+    ensures { (cost_in result ≡ opened (cost_in p)) × (result.six ≤ most_count) }
 {
     if p.six < MOST_COUNT {
         return CostBehind {
@@ -155,7 +157,7 @@ fn opened(p: CostBehind) -> CostBehind
 
 // The choice of point i, if there is a place for it.
 fn put_choice(choices: &mut [u8], i: usize, v: u32)
-    requires { v ≤ mostCount }
+    requires { v ≤ most_count }
     ensures { choices.new ≡ set choices.old i v }
 {
     if i < choices.len() {
@@ -165,8 +167,8 @@ fn put_choice(choices: &mut [u8], i: usize, v: u32)
 
 // At a point that differs or not: its choice, and what is carried on to the points before it.
 pub fn choose(differs: bool, choices: &mut [u8], i: usize, p: CostBehind) -> CostBehind
-    requires { Bounded (costIn p) }
-    ensures { PointChosen differs (costIn p) i choices.old (costIn result) choices.new }
+    requires { Bounded (cost_in p) }
+    ensures { PointChosen differs (cost_in p) i choices.old (cost_in result) choices.new }
 {
     if differs {
         let q = opened(p);

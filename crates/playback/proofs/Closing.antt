@@ -9,8 +9,8 @@ use lib.ListN.{length}
 use lib.Seq.{length-sets}
 use Rattle.text.specs.Text.{decimal, Puts}
 use Rattle.playback.specs.declared.Progress.{Progress}
-use Rattle.playback.specs.Replay.{cutWord, cutText, endLine, notASession, closing}
-use Rattle.playback.specs.Windows.{mostRecords, closingRoom, closingText}
+use Rattle.playback.specs.Replay.{cut_word, cut_text, end_line, not_a_session, closing}
+use Rattle.playback.specs.Windows.{most_records, closing_room, closing_text}
 
 -- Text that is known to be another.
 pub puts-as : {at end : ℕ} {a b entry exit : List ℕ} → b ≡ a → Puts at a entry exit end → Puts at b entry exit end
@@ -24,26 +24,26 @@ puts-length {at} {end} {a} {entry} p = ap (λ (l : List ℕ). length l) p.exits 
 
 -- ---- A record that is cut.
 
-pub no_cut : (number have : ℕ) → have ≡ 0 → cutText number have ≡ []
+pub no_cut : (number have : ℕ) → have ≡ 0 → cut_text number have ≡ []
 no_cut number have e = rw (eq-eqb have 0 e)
 
-pub one-cut : (number have : ℕ) → (have ≡ 0 → ⊥) → cutText number have ≡ decimal (number + 1) ++ cutWord
+pub one-cut : (number have : ℕ) → (have ≡ 0 → ⊥) → cut_text number have ≡ decimal (number + 1) ++ cut_word
 one-cut number have e = rw (ne_eqb have 0 e)
 
 -- ---- All of them.
 
 module _ (p : Progress) (out : List ℕ) where
-  pub closing-short : length out < closingRoom → closingText p out ≡ []
-  closing-short h = rw (lt-leb closingRoom (length out) h)
+  pub closing-short : length out < closing_room → closing_text p out ≡ []
+  closing-short h = rw (lt-leb closing_room (length out) h)
 
-  pub closing-most : mostRecords ≤ p.number → closingText p out ≡ []
-  closing-most h = rw (le-ltb p.number mostRecords h, and-false)
+  pub closing-most : most_records ≤ p.number → closing_text p out ≡ []
+  closing-most h = rw (le-ltb p.number most_records h, and-false)
 
-  module _ (room : closingRoom ≤ length out) (few : p.number < mostRecords) where
-    pub closing-none : (p.matched ≡ 5 → ⊥) → closingText p out ≡ notASession
+  module _ (room : closing_room ≤ length out) (few : p.number < most_records) where
+    pub closing-none : (p.matched ≡ 5 → ⊥) → closing_text p out ≡ not_a_session
     unfolding closing
-    closing-none h = rw (le-leb closingRoom (length out) room, lt-ltb p.number mostRecords few, ne_eqb p.matched 5 h)
+    closing-none h = rw (le-leb closing_room (length out) room, lt-ltb p.number most_records few, ne_eqb p.matched 5 h)
 
-    pub closing_lines : p.matched ≡ 5 → closingText p out ≡ cutText p.number p.have ++ endLine p.number
+    pub closing_lines : p.matched ≡ 5 → closing_text p out ≡ cut_text p.number p.have ++ end_line p.number
     unfolding closing
-    closing_lines h = rw (le-leb closingRoom (length out) room, lt-ltb p.number mostRecords few, eq-eqb p.matched 5 h)
+    closing_lines h = rw (le-leb closing_room (length out) room, lt-ltb p.number most_records few, eq-eqb p.matched 5 h)

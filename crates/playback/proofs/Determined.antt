@@ -9,10 +9,10 @@ use native.Mathlib.Omega.{arith}
 use lib.ListN.{length}
 use lib.Seq.{ext_get_or}
 use Rattle.text.proofs.Determined.{decimal-determined, hex-determined}
-use Rattle.front_end.specs.State.{State, resetState}
+use Rattle.front_end.specs.State.{State, reset_state}
 use Rattle.session_file.proofs.File.{file-read}
 use Rattle.playback.specs.declared.Progress.{Progress}
-use Rattle.playback.specs.Windows.{begun, roomsRight, Going, going, WindowTurns, stops, goes, Refused, WindowReplayed}
+use Rattle.playback.specs.Windows.{begun, rooms_right, Going, going, WindowTurns, stops, goes, Refused, WindowReplayed}
 use Rattle.playback.proofs.Turns.{roomy, not-roomy}
 use Rattle.playback.specs.Plain.{Fresh, Says, Recounts, Closes, Printed}
 
@@ -40,9 +40,9 @@ refused-is {from} {p} {kept} {kept'} {reply} {reply'} {out} {out'} {s} {s'} r =
 pub window-determined : {window kept reply out : List ℕ} {from p q : Progress} {s t u : State} {kept' kept'' reply' reply'' out' out'' : List ℕ}
     → WindowReplayed window from kept s reply out p kept' t reply' out' → WindowReplayed window from kept s reply out q kept'' u reply'' out''
     → going p kept' t reply' out' ≡ going q kept'' u reply'' out''
-window-determined {kept = kept} {reply = reply} {from = from} {p = p} {q = q} {t = t} {u = u} {kept' = k} {kept'' = l} {reply' = r} {reply'' = v} {out' = o} {out'' = w} x y = go (roomsRight kept reply from.have) refl
+window-determined {kept = kept} {reply = reply} {from = from} {p = p} {q = q} {t = t} {u = u} {kept' = k} {kept'' = l} {reply' = r} {reply'' = v} {out' = o} {out'' = w} x y = go (rooms_right kept reply from.have) refl
   where
-    go : (b : Bool) → roomsRight kept reply from.have ≡ b → going p k t r o ≡ going q l u v w
+    go : (b : Bool) → rooms_right kept reply from.have ≡ b → going p k t r o ≡ going q l u v w
     go true e = let rooms = roomy kept reply from.have e in turns-one (x.turns rooms) (y.turns rooms)
     go false e =
         let short = not-roomy kept reply from.have e in
@@ -91,8 +91,8 @@ determined {file} {s = s} {t = t} (Printed.session {packets} {rest} {buffer} {a}
     let yours = read.only m packets' rest' split' in
     let same : packets' ≡ packets = sym yours.0 ∙ mine.0 in
     let left : rest' ≡ rest = sym yours.1 ∙ mine.1 in
-    let lines = lines-one r (subst (λ (l : List ℕ). Recounts l 0 packets resetState a' t) (fresh-one f' f)
-    (subst (λ (ps : List (List ℕ)). Recounts buffer' 0 ps resetState a' t) same r')) in
+    let lines = lines-one r (subst (λ (l : List ℕ). Recounts l 0 packets reset_state a' t) (fresh-one f' f)
+    (subst (λ (ps : List (List ℕ)). Recounts buffer' 0 ps reset_state a' t) same r')) in
     let close = close-one c (subst (λ (l : List ℕ). Closes (length packets) (length l) b') left
     (subst (λ (ps : List (List ℕ)). Closes (length ps) (length rest') b') same c')) in
     (ap (λ (l : List ℕ). l ++ b) lines.0 ∙ ap (λ (l : List ℕ). a' ++ l) close, lines.1)

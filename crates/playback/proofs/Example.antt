@@ -2,26 +2,26 @@
 use mathlib.Core.Path.{◌≡◌, refl}
 use lib.ListN.{take}
 use Rattle.wire.specs.Buffers.{over}
-use Rattle.opcode.specs.Fields.{fault, wordsAt, rise}
-use Rattle.opcode.specs.Commands.{commandOf}
-use Rattle.opcode.specs.Judgement.{judgement, sizeWrong, valueFault}
-use Rattle.reply.specs.Reply.{replyBytes}
-use Rattle.settings.specs.Layout.{placeOf}
-use Rattle.settings.specs.Ranges.{pictureFields, deviceFields, right, shapeRight, settingsRight}
-use Rattle.settings.specs.Reset.{resetShape, resetBlock, resetMap, resetGains}
+use Rattle.opcode.specs.Fields.{fault, words_at, rise}
+use Rattle.opcode.specs.Commands.{command_of}
+use Rattle.opcode.specs.Judgement.{judgement, size_wrong, value_fault}
+use Rattle.reply.specs.Reply.{reply_bytes}
+use Rattle.settings.specs.Layout.{place_of}
+use Rattle.settings.specs.Ranges.{picture_fields, device_fields, right, shape_right, settings_right}
+use Rattle.settings.specs.Reset.{reset_shape, reset_block, reset_map, reset_gains}
 use Rattle.front_end.specs.State.{stopped}
-use Rattle.front_end.specs.Commands.{blockAfter, written, blockBack, dataBack, runsPast}
-use Rattle.front_end.specs.Mark.{markedBlock}
-use Rattle.front_end.specs.Step.{number_of, replyTo, step}
+use Rattle.front_end.specs.Commands.{block_after, written, block_back, data_back, runs_past}
+use Rattle.front_end.specs.Mark.{marked_block}
+use Rattle.front_end.specs.Step.{number_of, reply_to, step}
 use Rattle.text.specs.Text.{digits, hex}
-use Rattle.session_file.specs.Session.{is_whole, recorded, matchedBy, grown, taken, fileRun}
-use Rattle.playback.specs.Replay.{replyBuffer, line, lines, closing, text_of, replayText}
-use Rattle.playback.specs.WholeFiles.{exampleFile, exampleText, cutExampleText}
+use Rattle.session_file.specs.Session.{is_whole, recorded, matched_by, grown, taken, file_run}
+use Rattle.playback.specs.Replay.{reply_buffer, line, lines, closing, text_of, replay_text}
+use Rattle.playback.specs.WholeFiles.{example_file, example_text, cut_example_text}
 
-pub example : replayText exampleFile ≡ exampleText
-unfolding over fault wordsAt rise commandOf judgement sizeWrong valueFault replyBytes placeOf pictureFields deviceFields right shapeRight settingsRight resetShape resetBlock resetMap resetGains stopped markedBlock blockAfter written blockBack dataBack runsPast number_of replyTo step digits hex is_whole recorded matchedBy grown taken fileRun replyBuffer line lines closing text_of replayText
+pub example : replay_text example_file ≡ example_text
+unfolding over fault words_at rise command_of judgement size_wrong value_fault reply_bytes place_of picture_fields device_fields right shape_right settings_right reset_shape reset_block reset_map reset_gains stopped marked_block block_after written block_back data_back runs_past number_of reply_to step digits hex is_whole recorded matched_by grown taken file_run reply_buffer line lines closing text_of replay_text
 example = refl
 
-pub cut-example : replayText (take 18 exampleFile) ≡ cutExampleText
-unfolding over fault wordsAt rise commandOf judgement sizeWrong valueFault replyBytes placeOf pictureFields deviceFields right shapeRight settingsRight resetShape resetBlock resetMap resetGains stopped markedBlock blockAfter written blockBack dataBack runsPast number_of replyTo step digits hex is_whole recorded matchedBy grown taken fileRun replyBuffer line lines closing text_of replayText
+pub cut-example : replay_text (take 18 example_file) ≡ cut_example_text
+unfolding over fault words_at rise command_of judgement size_wrong value_fault reply_bytes place_of picture_fields device_fields right shape_right settings_right reset_shape reset_block reset_map reset_gains stopped marked_block block_after written block_back data_back runs_past number_of reply_to step digits hex is_whole recorded matched_by grown taken file_run reply_buffer line lines closing text_of replay_text
 cut-example = refl

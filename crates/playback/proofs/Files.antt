@@ -13,22 +13,22 @@ use Rattle.wire.specs.Buffers.{over}
 use Rattle.wire.proofs.Laws.{take-over}
 use Rattle.text.specs.Text.{decimal, Puts}
 use Rattle.text.proofs.Forms.{decimal-first, length-decimal}
-use Rattle.settings.specs.Reset.{resetShape, resetBlock, resetMap, resetGains}
+use Rattle.settings.specs.Reset.{reset_shape, reset_block, reset_map, reset_gains}
 use Rattle.settings.proofs.Allowed.{reset-allowed}
-use Rattle.front_end.specs.State.{State, resetState}
-use Rattle.packet.specs.Reading.{faultOf}
-use Rattle.front_end.specs.Step.{Out, out, statusReply, step}
-use Rattle.front_end.specs.Calls.{stateAfterAll}
+use Rattle.front_end.specs.State.{State, reset_state}
+use Rattle.packet.specs.Reading.{fault_of}
+use Rattle.front_end.specs.Step.{Out, out, status_reply, step}
+use Rattle.front_end.specs.Calls.{state_after_all}
 use Rattle.front_end.specs.Plain.{LentRight}
 use Rattle.front_end.proofs.Demands.{runs, right-running, demand1}
 use Rattle.front_end.proofs.InRange.{stays_lent}
-use Rattle.session_file.specs.Session.{Run, start, taken, fileRun}
+use Rattle.session_file.specs.Session.{Run, start, taken, file_run}
 use Rattle.session_file.specs.Plain.{HasPreamble, Splits, ends, next}
 use Rattle.session_file.proofs.Runs.{taken-append}
 use Rattle.session_file.proofs.File.{file-read}
 use Rattle.playback.specs.declared.Progress.{Progress}
-use Rattle.playback.specs.Replay.{replyBuffer, line, lines, stateAfterRecords, notASession, closing, text_of, replayText, endState, Formed}
-use Rattle.playback.specs.Windows.{progress, ReplayStands, Full, WindowReplayed, closingText}
+use Rattle.playback.specs.Replay.{reply_buffer, line, lines, state_after_records, not_a_session, closing, text_of, replay_text, end_state, Formed}
+use Rattle.playback.specs.Windows.{progress, ReplayStands, Full, WindowReplayed, closing_text}
 use Rattle.playback.specs.WholeFiles.{Called, WholeText, NoneStopped, OverLong}
 use Rattle.playback.proofs.Lines.{length-buffer, number-long, front-line, formed-append}
 
@@ -44,7 +44,7 @@ text-there text out out' size put fits =
 
 -- Before the first byte.
 begins : (kept : List ℕ) (s : State) → ReplayStands s start (progress 0 0 0 0 0) kept s
-unfolding stateAfterAll
+unfolding state_after_all
 begins kept s =
     record {
       reader = record { preamble-bytes = refl; record-bytes = refl; record-front = refl; record-cut = record { short = λ two. absurd (omega arith) } };
@@ -53,21 +53,21 @@ begins kept s =
     }
 
 record So (first : State) (bytes text : List ℕ) (p : Progress) (kept : List ℕ) (s : State) : Type 0 where
-  stands : ReplayStands first (fileRun bytes) p kept s
-  printed : lines 0 (fileRun bytes).whole first ≡ text
+  stands : ReplayStands first (file_run bytes) p kept s
+  printed : lines 0 (file_run bytes).whole first ≡ text
   formed : Formed 0 text p.number
 
 so_far : {kept bytes text : List ℕ} {p : Progress} {kept' : List ℕ} {s first : State} → Called (progress 0 0 0 0 0) kept first bytes text p kept' s
     → So first bytes text p kept' s
-unfolding fileRun lines taken
+unfolding file_run lines taken
 so_far {kept} {first = first} Called.none = record { stands = begins kept first; printed = refl; formed = Formed.none }
 so_far {first = first} (Called.next {bytes} {text} {window} {reply} {reply'} {out} {out'} {p} {q} {kept'} {kept''} {s'} {s''} c w) =
     let before = so_far c in
     let st = before.stands in
     let e : q.at - 0 ≡ q.at = omega arith in
-    let f = w.replayed.follows first (fileRun bytes) (record { reader = st.reader; number = st.number; state = st.state }) in
-    let run : taken (fileRun bytes) (take (q.at - 0) window) ≡ fileRun (bytes ++ take q.at window) =
-    ap (λ (k : ℕ). taken (fileRun bytes) (take k window)) e ∙ sym (taken-append start bytes (take q.at window)) in
+    let f = w.replayed.follows first (file_run bytes) (record { reader = st.reader; number = st.number; state = st.state }) in
+    let run : taken (file_run bytes) (take (q.at - 0) window) ≡ file_run (bytes ++ take q.at window) =
+    ap (λ (k : ℕ). taken (file_run bytes) (take k window)) e ∙ sym (taken-append start bytes (take q.at window)) in
     let put = text-there w.replayed.text out out' q.size w.replayed.put w.filled in
     record {
       stands = subst (λ (r : Run). ReplayStands first r q kept'' s'') run f.stands;
@@ -78,7 +78,7 @@ so_far {first = first} (Called.next {bytes} {text} {window} {reply} {reply'} {ou
     }
 
 closing-there : (p : Progress) (out : List ℕ) → 50 ≤ length out → p.number < 18446744073709551615
-    → closingText p out ≡ closing p.matched p.number p.have
+    → closing_text p out ≡ closing p.matched p.number p.have
 closing-there p out room few = rw (le-leb 50 (length out) room, lt-ltb p.number 18446744073709551615 few)
 
 none-taken : (r : Run) (window : List ℕ) (n : ℕ) → n ≡ 0 → taken r (take (n - 0) (drop 0 window)) ≡ r
@@ -97,7 +97,7 @@ moved {first} {bytes} {text} {kept} {p} {s} x {window} {reply} {out} {kept'} {re
       | yes h ↦ h
       | no h ↦
           let st = x.stands in
-          let r : Run = fileRun bytes in
+          let r : Run = file_run bytes in
           let f = w.replayed.follows first r (record { reader = st.reader; number = st.number; state = st.state }) in
           let e = none-taken r window q.at (omega arith) in
           let nothing = none-behind (lines 0 r.whole first) w.replayed.text (ap (λ (t : Run). lines 0 t.whole first) (sym e) ∙ f.printed) in
@@ -113,8 +113,8 @@ moved {first} {bytes} {text} {kept} {p} {s} x {window} {reply} {out} {kept'} {re
 
 -- Rule 9.6.
 pub any-split : {kept bytes text : List ℕ} {p : Progress} {kept' : List ℕ} {s : State}
-    → Called (progress 0 0 0 0 0) kept resetState bytes text p kept' s → WholeText bytes text p kept' s
-unfolding replayText text_of endState
+    → Called (progress 0 0 0 0 0) kept reset_state bytes text p kept' s → WholeText bytes text p kept' s
+unfolding replay_text text_of end_state
 any-split {bytes = bytes} {text = text} {p = p} c =
     let so = so_far c in
     let st = so.stands in
@@ -123,9 +123,9 @@ any-split {bytes = bytes} {text = text} {p = p} c =
           λ out room few.
           ap (λ (l : List ℕ). text ++ l) (closing-there p out room few)
           ∙ ap (λ (l : List ℕ). l ++ closing p.matched p.number p.have) (sym so.printed)
-          ∙ ap (λ (m : ℕ). lines 0 (fileRun bytes).whole resetState ++ closing m p.number p.have) st.reader.preamble-bytes
-          ∙ ap (λ (n : ℕ). lines 0 (fileRun bytes).whole resetState ++ closing (fileRun bytes).matched n p.have) st.number
-          ∙ ap (λ (h : ℕ). lines 0 (fileRun bytes).whole resetState ++ closing (fileRun bytes).matched (length (fileRun bytes).whole) h) st.reader.record-bytes;
+          ∙ ap (λ (m : ℕ). lines 0 (file_run bytes).whole reset_state ++ closing m p.number p.have) st.reader.preamble-bytes
+          ∙ ap (λ (n : ℕ). lines 0 (file_run bytes).whole reset_state ++ closing (file_run bytes).matched n p.have) st.number
+          ∙ ap (λ (h : ℕ). lines 0 (file_run bytes).whole reset_state ++ closing (file_run bytes).matched (length (file_run bytes).whole) h) st.reader.record-bytes;
       state = st.state;
       formed = so.formed;
       moves = λ w. moved so w;
@@ -157,43 +157,43 @@ unfolding lines
 text-first [] n have s e = closing-first n have e
 text-first (p ∷ ps) n have s e = lines-first 0 p ps s (closing 5 n have) e
 
-pub closing-none : (matched n have : ℕ) → (matched ≡ 5 → ⊥) → closing matched n have ≡ notASession
+pub closing-none : (matched n have : ℕ) → (matched ≡ 5 → ⊥) → closing matched n have ≡ not_a_session
 unfolding closing
 closing-none matched n have wrong = rw (ne_eqb matched 5 wrong)
 
 -- Rule 9.4.
-pub not-a-session : (file : List ℕ) → (replayText file ≡ notASession) ↔ (HasPreamble file → ⊥)
-unfolding replayText lines
+pub not-a-session : (file : List ℕ) → (replay_text file ≡ not_a_session) ↔ (HasPreamble file → ⊥)
+unfolding replay_text lines
 not-a-session file =
-    let r : Run = fileRun file in
+    let r : Run = file_run file in
     let read = file-read file in (
       λ same e.
-          let text = text-is r resetState 5 r.whole r.under (read.session.1 e) refl refl in
-          text-first r.whole (length r.whole) (length r.under) resetState (ap (λ (l : List ℕ). get_or l 0 0) (sym text ∙ same)),
+          let text = text-is r reset_state 5 r.whole r.under (read.session.1 e) refl refl in
+          text-first r.whole (length r.whole) (length r.under) reset_state (ap (λ (l : List ℕ). get_or l 0 0) (sym text ∙ same)),
       λ wrong.
-          text-is r resetState r.matched [] r.under refl (read.none wrong) refl
+          text-is r reset_state r.matched [] r.under refl (read.none wrong) refl
           ∙ closing-none r.matched 0 (length r.under) (λ five. wrong (read.session.0 five)),
     )
 
 -- ---- What is lent stays right.
 
 -- Only the length of a reply buffer counts.
-fresh : (s : State) (reply : List ℕ) → LentRight s reply → LentRight s replyBuffer
+fresh : (s : State) (reply : List ℕ) → LentRight s reply → LentRight s reply_buffer
 fresh s reply l = record { tables = l.tables; room = omega (arith, length-buffer); settings = l.settings }
 
-reset-block-long : length resetBlock ≡ 1024
-unfolding resetBlock resetShape
+reset-block-long : length reset_block ≡ 1024
+unfolding reset_block reset_shape
 reset-block-long = refl
 
-reset-map-long : length resetMap ≡ 3968
-unfolding resetMap
+reset-map-long : length reset_map ≡ 3968
+unfolding reset_map
 reset-map-long = length-replicate {A = ℕ} 3968 0
 
-reset-gains-long : length resetGains ≡ 6048
-unfolding resetGains
+reset-gains-long : length reset_gains ≡ 6048
+unfolding reset_gains
 reset-gains-long = length-replicate {A = ℕ} 6048 4096
 
-reset-right : LentRight resetState replyBuffer
+reset-right : LentRight reset_state reply_buffer
 reset-right =
     record {
       tables = record { block = reset-block-long; staged = reset-map-long; live = reset-map-long; gains = reset-gains-long };
@@ -217,64 +217,64 @@ bytes_drop (suc n) (x ∷ l) h = bytes_drop n l (λ i. h (suc i))
 
 -- Record for record, each with a fresh reply buffer.
 records-right : {bytes : List ℕ} {packets : List (List ℕ)} {h : List ℕ} → Splits bytes packets h → Bytes bytes → (s : State)
-    → LentRight s replyBuffer → LentRight (stateAfterRecords packets s) replyBuffer
-unfolding stateAfterAll
+    → LentRight s reply_buffer → LentRight (state_after_records packets s) reply_buffer
+unfolding state_after_all
 records-right (ends c) all s l = l
 records-right (next {low} {high} {packet} {rest} e split) all s l =
     let behind : Bytes (packet ++ rest) = λ k. all (suc (suc k)) in
-    records-right split (bytes-behind packet rest behind) (step packet s replyBuffer).state
-    (fresh _ _ (stays_lent packet (bytes-front packet rest behind) s replyBuffer l))
+    records-right split (bytes-behind packet rest behind) (step packet s reply_buffer).state
+    (fresh _ _ (stays_lent packet (bytes-front packet rest behind) s reply_buffer l))
 
 -- None of them is refused by 1.
 records-run : {bytes : List ℕ} {packets : List (List ℕ)} {h : List ℕ} → Splits bytes packets h → Bytes bytes → (s : State)
-    → LentRight s replyBuffer → NoneStopped packets s
+    → LentRight s reply_buffer → NoneStopped packets s
 records-run (ends c) all s l = NoneStopped.none
 records-run (next {low} {high} {packet} {rest} e split) all s l =
     let behind : Bytes (packet ++ rest) = λ k. all (suc (suc k)) in
-    NoneStopped.next (λ one. (demand1 packet s replyBuffer).one.0 one l)
-    (records-run split (bytes-behind packet rest behind) (step packet s replyBuffer).state
-    (fresh _ _ (stays_lent packet (bytes-front packet rest behind) s replyBuffer l)))
+    NoneStopped.next (λ one. (demand1 packet s reply_buffer).one.0 one l)
+    (records-run split (bytes-behind packet rest behind) (step packet s reply_buffer).state
+    (fresh _ _ (stays_lent packet (bytes-front packet rest behind) s reply_buffer l)))
 
-pub none-stopped : (file : List ℕ) → Bytes file → NoneStopped (fileRun file).whole resetState
+pub none-stopped : (file : List ℕ) → Bytes file → NoneStopped (file_run file).whole reset_state
 none-stopped file all =
     let read = file-read file in
-    elim (ℕ_discrete (fileRun file).matched 5) [
-      | yes five ↦ records-run (read.splits (read.session.0 five)) (bytes_drop 5 file all) resetState reset-right
+    elim (ℕ_discrete (file_run file).matched 5) [
+      | yes five ↦ records-run (read.splits (read.session.0 five)) (bytes_drop 5 file all) reset_state reset-right
       | no other ↦
-          subst (λ (ps : List (List ℕ)). NoneStopped ps resetState) (sym (read.none (λ e. other (read.session.1 e)))) NoneStopped.none
+          subst (λ (ps : List (List ℕ)). NoneStopped ps reset_state) (sym (read.none (λ e. other (read.session.1 e)))) NoneStopped.none
     ]
 
 -- Rules 9.2 and 9.6.
-pub stays-right : (file : List ℕ) → Bytes file → LentRight (endState file) replyBuffer
-unfolding endState stateAfterAll
+pub stays-right : (file : List ℕ) → Bytes file → LentRight (end_state file) reply_buffer
+unfolding end_state state_after_all
 stays-right file all =
     let read = file-read file in
-    elim (ℕ_discrete (fileRun file).matched 5) [
-      | yes five ↦ records-right (read.splits (read.session.0 five)) (bytes_drop 5 file all) resetState reset-right
+    elim (ℕ_discrete (file_run file).matched 5) [
+      | yes five ↦ records-right (read.splits (read.session.0 five)) (bytes_drop 5 file all) reset_state reset-right
       | no other ↦
-          subst (λ (ps : List (List ℕ)). LentRight (stateAfterRecords ps resetState) replyBuffer)
+          subst (λ (ps : List (List ℕ)). LentRight (state_after_records ps reset_state) reply_buffer)
           (sym (read.none (λ e. other (read.session.1 e)))) reset-right
     ]
 
 -- ---- Over-long records.
 
 -- Rule 9.5.
-module _ (p : List ℕ) (s : State) (l : LentRight s replyBuffer) (long : 512 < length p) where
-  long-status : (step p s replyBuffer).status ≡ 3
+module _ (p : List ℕ) (s : State) (l : LentRight s reply_buffer) (long : 512 < length p) where
+  long-status : (step p s reply_buffer).status ≡ 3
   unfolding step
-  long-status = number-long p p s replyBuffer long long refl p long ∙ rw (runs s replyBuffer (right-running l))
+  long-status = number-long p p s reply_buffer long long refl p long ∙ rw (runs s reply_buffer (right-running l))
 
-  long-out : step p s replyBuffer ≡ out 3 0 (length (statusReply 3 0 p)) s (over (statusReply 3 0 p) replyBuffer)
+  long-out : step p s reply_buffer ≡ out 3 0 (length (status_reply 3 0 p)) s (over (status_reply 3 0 p) reply_buffer)
   unfolding step
   long-out =
-      (demand1 p s replyBuffer).refused l (λ none. omega (arith, long-status))
-      ∙ ap (λ (n : ℕ). out n (faultOf n p) (length (statusReply n (faultOf n p) p)) s (over (statusReply n (faultOf n p) p) replyBuffer)) long-status
+      (demand1 p s reply_buffer).refused l (λ none. omega (arith, long-status))
+      ∙ ap (λ (n : ℕ). out n (fault_of n p) (length (status_reply n (fault_of n p) p)) s (over (status_reply n (fault_of n p) p) reply_buffer)) long-status
 
   pub over-long : OverLong p s
   over-long =
       record {
         status = long-status;
         unchanged = ap (λ (o : Out). o.state) long-out;
-        reply = ap (λ (o : Out). take o.size o.reply) long-out ∙ take-over (statusReply 3 0 p) replyBuffer;
-        front = λ n. front-line n p s replyBuffer (omega (arith, length-buffer));
+        reply = ap (λ (o : Out). take o.size o.reply) long-out ∙ take-over (status_reply 3 0 p) reply_buffer;
+        front = λ n. front-line n p s reply_buffer (omega (arith, length-buffer));
       }

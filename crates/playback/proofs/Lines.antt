@@ -11,114 +11,114 @@ use lib.ListN.{length, take, length-append, length-replicate}
 use lib.Seq.{take_all, length-take-le, get_or-take}
 use Rattle.wire.proofs.Laws.{take-over, sets-append}
 use Rattle.opcode.specs.Judgement.{judgement}
-use Rattle.packet.specs.Frame.{headerOf}
-use Rattle.packet.specs.Reading.{tooShort}
+use Rattle.packet.specs.Frame.{header_of}
+use Rattle.packet.specs.Reading.{too_short}
 use Rattle.text.specs.Text.{decimal, hex, Puts}
 use Rattle.text.specs.Plain.{Decimal, Hex}
 use Rattle.front_end.specs.State.{State, stopped}
-use Rattle.front_end.specs.Step.{number_of, replyTo, stateAfter, step}
-use Rattle.front_end.specs.Calls.{stateAfterAll}
-use Rattle.playback.specs.Replay.{replyBuffer, line, line_of, lines, stateAfterRecords, Formed}
+use Rattle.front_end.specs.Step.{number_of, reply_to, state_after, step}
+use Rattle.front_end.specs.Calls.{state_after_all}
+use Rattle.playback.specs.Replay.{reply_buffer, line, line_of, lines, state_after_records, Formed}
 
 -- ---- One record more.
 
 pub state-snoc : (ps : List (List ℕ)) (p : List ℕ) (s : State)
-    → stateAfterRecords (ps ++ (p ∷ [])) s ≡ (step p (stateAfterRecords ps s) replyBuffer).state
-unfolding stateAfterAll
+    → state_after_records (ps ++ (p ∷ [])) s ≡ (step p (state_after_records ps s) reply_buffer).state
+unfolding state_after_all
 state-snoc [] p s = refl
-state-snoc (q ∷ ps) p s = state-snoc ps p (step q s replyBuffer).state
+state-snoc (q ∷ ps) p s = state-snoc ps p (step q s reply_buffer).state
 
 pub lines_snoc : (before : ℕ) (ps : List (List ℕ)) (p : List ℕ) (s : State)
     → lines before (ps ++ (p ∷ [])) s
-    ≡ lines before ps s ++ line_of (before + length ps + 1) (step p (stateAfterRecords ps s) replyBuffer)
-unfolding lines stateAfterAll
+    ≡ lines before ps s ++ line_of (before + length ps + 1) (step p (state_after_records ps s) reply_buffer)
+unfolding lines state_after_all
 lines_snoc before [] p s = rw (add-zero before) (append-nil _)
 lines_snoc before (q ∷ ps) p s =
-    let rest = lines_snoc (before + 1) ps p (step q s replyBuffer).state in
+    let rest = lines_snoc (before + 1) ps p (step q s reply_buffer).state in
     let e : before + 1 + length ps + 1 ≡ before + length (q ∷ ps) + 1 = omega arith in
-    ap (λ (l : List ℕ). line_of (before + 1) (step q s replyBuffer) ++ l) (rw e at rest)
-    ∙ sym (append_assoc (line_of (before + 1) (step q s replyBuffer)) (lines (before + 1) ps (step q s replyBuffer).state) (line_of (before + length (q ∷ ps) + 1) (step p (stateAfterRecords ps (step q s replyBuffer).state) replyBuffer)))
+    ap (λ (l : List ℕ). line_of (before + 1) (step q s reply_buffer) ++ l) (rw e at rest)
+    ∙ sym (append_assoc (line_of (before + 1) (step q s reply_buffer)) (lines (before + 1) ps (step q s reply_buffer).state) (line_of (before + length (q ∷ ps) + 1) (step p (state_after_records ps (step q s reply_buffer).state) reply_buffer)))
 
 -- ---- What a record's line and state depend on.
 
 -- Rule 9.2: the bytes of the reply, whatever the buffer held.
 line-is : (n : ℕ) (p : List ℕ) (s : State) (reply : List ℕ)
-    → line_of n (step p s reply) ≡ line n (number_of p s reply) (replyTo (number_of p s reply) p s)
+    → line_of n (step p s reply) ≡ line n (number_of p s reply) (reply_to (number_of p s reply) p s)
 unfolding step
-line-is n p s reply = ap (line n (number_of p s reply)) (take-over (replyTo (number_of p s reply) p s) reply)
+line-is n p s reply = ap (line n (number_of p s reply)) (take-over (reply_to (number_of p s reply) p s) reply)
 
-state-is : (p : List ℕ) (s : State) (reply : List ℕ) → (step p s reply).state ≡ stateAfter (number_of p s reply) p s
+state-is : (p : List ℕ) (s : State) (reply : List ℕ) → (step p s reply).state ≡ state_after (number_of p s reply) p s
 unfolding step
 state-is p s reply = refl
 
-pub length-buffer : length replyBuffer ≡ 512
-unfolding replyBuffer
+pub length-buffer : length reply_buffer ≡ 512
+unfolding reply_buffer
 length-buffer = length-replicate {A = ℕ} 512 0
 
-same-stopped : (s : State) (reply : List ℕ) → 512 ≤ length reply → stopped s reply ≡ stopped s replyBuffer
+same-stopped : (s : State) (reply : List ℕ) → 512 ≤ length reply → stopped s reply ≡ stopped s reply_buffer
 unfolding stopped
-same-stopped s reply h = rw (le-leb 512 (length reply) h, le-leb 512 (length replyBuffer) (omega (arith, length-buffer))) refl
+same-stopped s reply h = rw (le-leb 512 (length reply) h, le-leb 512 (length reply_buffer) (omega (arith, length-buffer))) refl
 
-same_number : (p : List ℕ) (s : State) (reply : List ℕ) → 512 ≤ length reply → number_of p s reply ≡ number_of p s replyBuffer
+same_number : (p : List ℕ) (s : State) (reply : List ℕ) → 512 ≤ length reply → number_of p s reply ≡ number_of p s reply_buffer
 unfolding number_of
 same_number p s reply h = rw (same-stopped s reply h)
 
 -- Rule 9.5: an over-long packet is refused by 1 or 3, and of its bytes only the first counts.
-module _ (p q : List ℕ) (s : State) (reply : List ℕ) (long : 512 < length p) (long' : 512 < length q) (same : headerOf p ≡ headerOf q) where
+module _ (p q : List ℕ) (s : State) (reply : List ℕ) (long : 512 < length p) (long' : 512 < length q) (same : header_of p ≡ header_of q) where
   pub number-long : (x : List ℕ) → 512 < length x → number_of x s reply ≡ cond (stopped s reply) 1 3
   unfolding number_of judgement
   number-long x l =
-      let short : tooShort x ≡ false = le-ltb (length x) _ (omega arith) in
+      let short : too_short x ≡ false = le-ltb (length x) _ (omega arith) in
       rw (short, lt-ltb 512 (length x) l) refl
 
   number_same : number_of p s reply ≡ number_of q s reply
   number_same = number-long p long ∙ sym (number-long q long')
 
-  reply-same : replyTo (number_of p s reply) p s ≡ replyTo (number_of q s reply) q s
-  unfolding replyTo
+  reply-same : reply_to (number_of p s reply) p s ≡ reply_to (number_of q s reply) q s
+  unfolding reply_to
   reply-same = rw (number-long p long, number-long q long') (go (stopped s reply))
     where
-      go : (b : Bool) → replyTo (cond b 1 3) p s ≡ replyTo (cond b 1 3) q s
+      go : (b : Bool) → reply_to (cond b 1 3) p s ≡ reply_to (cond b 1 3) q s
       go true = rw (lt-ltb 0 (length p) (omega arith), lt-ltb 0 (length q) (omega arith), same)
       go false = rw (lt-ltb 0 (length p) (omega arith), lt-ltb 0 (length q) (omega arith), same)
 
-  state-same : stateAfter (number_of p s reply) p s ≡ stateAfter (number_of q s reply) q s
+  state-same : state_after (number_of p s reply) p s ≡ state_after (number_of q s reply) q s
   state-same = rw (number-long p long, number-long q long') (go (stopped s reply))
     where
-      go : (b : Bool) → stateAfter (cond b 1 3) p s ≡ stateAfter (cond b 1 3) q s
+      go : (b : Bool) → state_after (cond b 1 3) p s ≡ state_after (cond b 1 3) q s
       go true = refl
       go false = refl
 
 -- The front of a packet stands for it.
 pub front-line : (n : ℕ) (p : List ℕ) (s : State) (reply : List ℕ) → 512 ≤ length reply
-    → line_of n (step (take 513 p) s reply) ≡ line_of n (step p s replyBuffer)
+    → line_of n (step (take 513 p) s reply) ≡ line_of n (step p s reply_buffer)
 front-line n p s reply room =
     elim (dec_lt 512 (length p)) [
       | yes lt ↦
           let size : length (take 513 p) ≡ 513 = length-take-le 513 p (omega arith) in
           let head = get_or-take 513 p 0 0 (omega arith) in
-          let e = number_same (take 513 p) p s replyBuffer (omega arith) lt head in
+          let e = number_same (take 513 p) p s reply_buffer (omega arith) lt head in
           line-is n (take 513 p) s reply ∙ rw (same_number (take 513 p) s reply room)
-          (rw e (ap (line n (number_of p s replyBuffer)) (rw e at (reply-same (take 513 p) p s replyBuffer (omega arith) lt head))))
-          ∙ sym (line-is n p s replyBuffer)
+          (rw e (ap (line n (number_of p s reply_buffer)) (rw e at (reply-same (take 513 p) p s reply_buffer (omega arith) lt head))))
+          ∙ sym (line-is n p s reply_buffer)
       | no ge ↦
           rw (take_all 513 p (omega arith))
-          (line-is n p s reply ∙ rw (same_number p s reply room) (sym (line-is n p s replyBuffer)))
+          (line-is n p s reply ∙ rw (same_number p s reply room) (sym (line-is n p s reply_buffer)))
     ]
 
 pub front-state : (p : List ℕ) (s : State) (reply : List ℕ) → 512 ≤ length reply
-    → (step (take 513 p) s reply).state ≡ (step p s replyBuffer).state
+    → (step (take 513 p) s reply).state ≡ (step p s reply_buffer).state
 front-state p s reply room =
     elim (dec_lt 512 (length p)) [
       | yes lt ↦
           let size : length (take 513 p) ≡ 513 = length-take-le 513 p (omega arith) in
           let head = get_or-take 513 p 0 0 (omega arith) in
           state-is (take 513 p) s reply ∙ rw (same_number (take 513 p) s reply room)
-          (state-same (take 513 p) p s replyBuffer (omega arith) lt head)
-          ∙ sym (state-is p s replyBuffer)
+          (state-same (take 513 p) p s reply_buffer (omega arith) lt head)
+          ∙ sym (state-is p s reply_buffer)
       | no ge ↦
           rw (take_all 513 p (omega arith))
-          (state-is p s reply ∙ rw (same_number p s reply room) (sym (state-is p s replyBuffer)))
+          (state-is p s reply ∙ rw (same_number p s reply room) (sym (state-is p s reply_buffer)))
     ]
 
 -- ---- The form of lines.

@@ -15,17 +15,17 @@ use Rattle.wire.specs.Buffers.{over}
 use Rattle.text.specs.Text.{decimal, hex, Puts}
 use Rattle.text.specs.Plain.{Decimal, Hex}
 use Rattle.front_end.specs.State.{State, stopped}
-use Rattle.front_end.specs.Step.{Out, out, readAndPlaced, number_of, replyTo, step}
+use Rattle.front_end.specs.Step.{Out, out, read_and_placed, number_of, reply_to, step}
 use Rattle.front_end.proofs.Bounds.{placed-number}
 use Rattle.front_end.proofs.ReadBack.{size_small}
 use Rattle.session_file.specs.declared.Taken.{Taken}
 use Rattle.session_file.specs.Session.{Run, taken}
-use Rattle.session_file.specs.Windows.{mostRecord, part, found, nextTaken, Follows, ReaderStep, ReaderStands}
+use Rattle.session_file.specs.Windows.{most_record, part, found, next_taken, Follows, ReaderStep, ReaderStands}
 use Rattle.session_file.proofs.Runs.{taken-append}
 use Rattle.playback.specs.declared.Progress.{Progress}
-use Rattle.playback.specs.Replay.{replyBuffer, line, line_of, lines, stateAfterRecords, Formed}
-use Rattle.playback.specs.Windows.{lineRoom, mostRecords, progress, begun, ReplayStands, Followed, Replayed, Full, hasRoom, RoomsEnough, roomsRight}
-use Rattle.playback.specs.Windows.{WindowReplayed, Carries, Answered, Turned, Going, going, read_on, answer_of, turnBy, turn_of, WindowTurns, stops, goes}
+use Rattle.playback.specs.Replay.{reply_buffer, line, line_of, lines, state_after_records, Formed}
+use Rattle.playback.specs.Windows.{line_room, most_records, progress, begun, ReplayStands, Followed, Replayed, Full, has_room, RoomsEnough, rooms_right}
+use Rattle.playback.specs.Windows.{WindowReplayed, Carries, Answered, Turned, Going, going, read_on, answer_of, turn_by, turn_of, WindowTurns, stops, goes}
 use Rattle.playback.proofs.Lines.{state-snoc, lines_snoc, front-line, front-state, line-formed, formed-append, puts-behind}
 
 -- ---- Parts of a window.
@@ -88,13 +88,13 @@ pub status-small : (p : List ℕ) (s : State) (reply : List ℕ) → (step p s r
 unfolding step number_of
 status-small p s reply = go (stopped s reply)
   where
-    go : (b : Bool) → cond b 1 (first (readAndPlaced p s.block)) ≤ 12
+    go : (b : Bool) → cond b 1 (first (read_and_placed p s.block)) ≤ 12
     go true = omega arith
     go false = (placed-number p s.block).small
 
 pub answer-done : {packet : List ℕ} {q p : Progress} {s s' : State} {reply reply' buffer buffer' : List ℕ} {status fault size : ℕ}
     → out status fault size s' reply' ≡ step packet s reply → Puts q.size (line (q.number + 1) status (take size reply')) buffer buffer' p.size
-    → p.size ≤ q.size + lineRoom → Decimal (q.number + 1) (decimal (q.number + 1)) → Decimal status (decimal status)
+    → p.size ≤ q.size + line_room → Decimal (q.number + 1) (decimal (q.number + 1)) → Decimal status (decimal status)
     → Hex (take size reply') (hex (take size reply')) → p.number ≡ q.number + 1 → p.at ≡ q.at → p.matched ≡ q.matched → p.have ≡ q.have
     → Answered packet q s reply buffer p s' reply' buffer'
 answer-done {packet} {q} {p} {s} {s'} {reply} {reply'} {buffer} {buffer'} {status} {fault} {size} e put fits a b c number at matched have =
@@ -115,13 +115,13 @@ answer-done {packet} {q} {p} {s} {s'} {reply} {reply'} {buffer} {buffer'} {statu
 -- ---- A turn.
 
 -- What the reader leaves, with the output as it was.
-abbrev pub readTo : Progress → Taken → Progress
-readTo p t = progress t.at p.size t.matched p.number t.have
+abbrev pub read_to : Progress → Taken → Progress
+read_to p t = progress t.at p.size t.matched p.number t.have
 
 module _ (window : List ℕ) (p : Progress) (kept : List ℕ) (s : State) (out : List ℕ) (t : Taken) (kept' : List ℕ)
     (follows : Follows window p.at p.matched p.have kept t kept') where
   -- No record became whole.
-  pub turn-none : t.place ≡ 0 → Replayed window p kept s out (readTo p t) kept' s out
+  pub turn-none : t.place ≡ 0 → Replayed window p kept s out (read_to p t) kept' s out
   turn-none none =
       record {
         text = [];
@@ -135,7 +135,7 @@ module _ (window : List ℕ) (p : Progress) (kept : List ℕ) (s : State) (out :
                   record {
                     reader = w.stands;
                     number = st.number ∙ ap (λ (l : List (List ℕ)). length l) (sym (w.none none));
-                    state = st.state ∙ ap (λ (l : List (List ℕ)). stateAfterRecords l first) (sym (w.none none));
+                    state = st.state ∙ ap (λ (l : List (List ℕ)). state_after_records l first) (sym (w.none none));
                   };
               printed = ap (λ (l : List (List ℕ)). lines 0 l first) (w.none none) ∙ sym (append-nil (lines 0 r.whole first));
             };
@@ -143,7 +143,7 @@ module _ (window : List ℕ) (p : Progress) (kept : List ℕ) (s : State) (out :
 
   -- One did.
   module _ (reply : List ℕ) (room : 512 ≤ length reply) (some : t.place ≡ 0 → ⊥) (q : Progress) (s' : State) (reply' out' : List ℕ)
-      (a : Answered (found t window kept') (readTo p t) s reply out q s' reply' out') where
+      (a : Answered (found t window kept') (read_to p t) s reply out q s' reply' out') where
     pub turn_one : Replayed window p kept s out q kept' s' out'
     turn_one =
         record {
@@ -154,19 +154,19 @@ module _ (window : List ℕ) (p : Progress) (kept : List ℕ) (s : State) (out :
               λ first r st.
               let w = follows r st.reader in
               let packet : List ℕ = w.packet in
-              let before : State = stateAfterRecords r.whole first in
+              let before : State = state_after_records r.whole first in
               let one = w.one some in
               let there = w.there some in
               let bytes : List ℕ = part window p.at t.at in
               let place : part window p.at q.at ≡ bytes = ap (part window p.at) a.at in
               let run : taken r (part window p.at q.at) ≡ taken r bytes = ap (taken r) place in
-              let state-now : s' ≡ (step packet before replyBuffer).state =
+              let state-now : s' ≡ (step packet before reply_buffer).state =
               a.state ∙ ap (λ (x : List ℕ). (step x s reply).state) there ∙ front-state packet s reply room
-              ∙ ap (λ (x : State). (step packet x replyBuffer).state) st.state in
-              let text-now : line_of (p.number + 1) (step (found t window kept') s reply) ≡ line_of (0 + length r.whole + 1) (step packet before replyBuffer) =
+              ∙ ap (λ (x : State). (step packet x reply_buffer).state) st.state in
+              let text-now : line_of (p.number + 1) (step (found t window kept') s reply) ≡ line_of (0 + length r.whole + 1) (step packet before reply_buffer) =
               ap (λ (x : List ℕ). line_of (p.number + 1) (step x s reply)) there ∙ front-line (p.number + 1) packet s reply room
-              ∙ ap (λ (x : State). line_of (p.number + 1) (step packet x replyBuffer)) st.state
-              ∙ ap (λ (n : ℕ). line_of n (step packet before replyBuffer)) (omega (arith, st.number)) in
+              ∙ ap (λ (x : State). line_of (p.number + 1) (step packet x reply_buffer)) st.state
+              ∙ ap (λ (n : ℕ). line_of n (step packet before reply_buffer)) (omega (arith, st.number)) in
               record {
                 stands =
                     subst (λ (x : Run). ReplayStands first x q kept' s') (sym run)
@@ -178,7 +178,7 @@ module _ (window : List ℕ) (p : Progress) (kept : List ℕ) (s : State) (out :
                           a.number ∙ ap (λ (n : ℕ). n + 1) st.number
                           ∙ sym (ap (λ (l : List (List ℕ)). length l) one ∙ length-append r.whole (packet ∷ []));
                       state =
-                          state-now ∙ sym (ap (λ (l : List (List ℕ)). stateAfterRecords l first) one ∙ state-snoc r.whole packet first);
+                          state-now ∙ sym (ap (λ (l : List (List ℕ)). state_after_records l first) one ∙ state-snoc r.whole packet first);
                     });
                 printed =
                     ap (λ (x : Run). lines 0 x.whole first) run ∙ ap (λ (l : List (List ℕ)). lines 0 l first) one
@@ -188,13 +188,13 @@ module _ (window : List ℕ) (p : Progress) (kept : List ℕ) (s : State) (out :
 
 -- ---- Room in the output.
 
-pub no_room : (size long : ℕ) → long < lineRoom → long < size + lineRoom
+pub no_room : (size long : ℕ) → long < line_room → long < size + line_room
 no_room size long h = omega arith
 
-pub filled-room : (size long : ℕ) → lineRoom ≤ long → long - lineRoom < size → long < size + lineRoom
+pub filled-room : (size long : ℕ) → line_room ≤ long → long - line_room < size → long < size + line_room
 filled-room size long h k = omega arith
 
-pub some-room : (size long : ℕ) → lineRoom ≤ long → size ≤ long - lineRoom → size + lineRoom ≤ long
+pub some-room : (size long : ℕ) → line_room ≤ long → size ≤ long - line_room → size + line_room ≤ long
 some-room size long h k = omega arith
 
 -- A reply lies in its buffer, and is no longer than any may be.
@@ -203,7 +203,7 @@ pub reply-fits : (packet : List ℕ) (s : State) (reply : List ℕ) {s' : State}
 unfolding step over
 reply-fits packet s reply {s'} {reply'} {status} {fault} {size} e =
     let number : ℕ = number_of packet s reply in
-    let bytes : List ℕ = replyTo number packet s in
+    let bytes : List ℕ = reply_to number packet s in
     let long : size ≡ length bytes = ap (λ (o : Out). o.size) e in
     let there : reply' ≡ bytes ++ drop (length bytes) reply = ap (λ (o : Out). o.reply) e in (
       omega (arith, long, ap (λ (l : List ℕ). length l) there, length-append bytes (drop (length bytes) reply)),
@@ -214,15 +214,15 @@ reply-fits packet s reply {s'} {reply'} {status} {fault} {size} e =
 
 -- A step of the reader is that of the definition.
 by-step : (window : List ℕ) (g : Going) (t : Taken) (kept' : List ℕ) → ReaderStep window g.now.at g.now.matched g.now.have g.kept t kept'
-    → turnBy window g t kept' ≡ turn_of window g
+    → turn_by window g t kept' ≡ turn_of window g
 unfolding turn_of
 by-step window g t kept' step =
-    ap (λ (x : Taken). turnBy window g x kept') step.answer
-    ∙ ap (λ (k : List ℕ). turnBy window g (nextTaken window g.now.at g.now.matched g.now.have g.kept) k) step.room
+    ap (λ (x : Taken). turn_by window g x kept') step.answer
+    ∙ ap (λ (k : List ℕ). turn_by window g (next_taken window g.now.at g.now.matched g.now.have g.kept) k) step.room
 
 outcome-none : (window : List ℕ) (g : Going) (t : Taken) (kept' : List ℕ) → ReaderStep window g.now.at g.now.matched g.now.have g.kept t kept'
     → t.place ≡ 0 → read_on g t kept' ≡ turn_of window g
-unfolding turnBy
+unfolding turn_by
 outcome-none window g t kept' step none = rw (eq-eqb t.place 0 none) at (by-step window g t kept' step)
 
 progress-is : (q : Progress) {at size matched number have : ℕ} → q.at ≡ at → q.size ≡ size → q.matched ≡ matched → q.number ≡ number → q.have ≡ have
@@ -244,12 +244,12 @@ answer-is packet g q s' reply' out' a =
 
 outcome-one : (window : List ℕ) (g : Going) (t : Taken) (kept' : List ℕ) → ReaderStep window g.now.at g.now.matched g.now.have g.kept t kept'
     → (t.place ≡ 0 → ⊥) → answer_of (found t window kept') (read_on g t kept') ≡ turn_of window g
-unfolding turnBy
+unfolding turn_by
 outcome-one window g t kept' step some = rw (ne_eqb t.place 0 some) at (by-step window g t kept' step)
 
 pub turned_none : (window : List ℕ) (p : Progress) (kept : List ℕ) (s : State) (reply out : List ℕ) (t : Taken) (kept' : List ℕ)
-    → ReaderStep window p.at p.matched p.have kept t kept' → t.place ≡ 0 → p.size + lineRoom ≤ length out
-    → Turned window p kept s reply out (readTo p t) kept' s reply out
+    → ReaderStep window p.at p.matched p.have kept t kept' → t.place ≡ 0 → p.size + line_room ≤ length out
+    → Turned window p kept s reply out (read_to p t) kept' s reply out
 turned_none window p kept s reply out t kept' step none room =
     record {
       outcome = outcome-none window (going p kept s reply out) t kept' step none;
@@ -261,12 +261,12 @@ turned_none window p kept s reply out t kept' step none room =
     }
 
 turned-one : (window : List ℕ) (p : Progress) (kept : List ℕ) (s : State) (out : List ℕ) (t : Taken) (kept' : List ℕ)
-    → ReaderStep window p.at p.matched p.have kept t kept' → (t.place ≡ 0 → ⊥) → p.size + lineRoom ≤ length out
+    → ReaderStep window p.at p.matched p.have kept t kept' → (t.place ≡ 0 → ⊥) → p.size + line_room ≤ length out
     → (packet reply : List ℕ) → 512 ≤ length reply → packet ≡ found t window kept'
-    → (q : Progress) (s' : State) (reply' out' : List ℕ) → Answered packet (readTo p t) s reply out q s' reply' out'
+    → (q : Progress) (s' : State) (reply' out' : List ℕ) → Answered packet (read_to p t) s reply out q s' reply' out'
     → Turned window p kept s reply out q kept' s' reply' out'
 turned-one window p kept s out t kept' step some room packet reply long e q s' reply' out' a =
-    let b = subst (λ (x : List ℕ). Answered x (readTo p t) s reply out q s' reply' out') e a in
+    let b = subst (λ (x : List ℕ). Answered x (read_to p t) s reply out q s' reply' out') e a in
     let g : Going = going p kept s reply out in
     record {
       outcome = answer-is (found t window kept') (read_on g t kept') q s' reply' out' b ∙ outcome-one window g t kept' step some;
@@ -278,18 +278,18 @@ turned-one window p kept s out t kept' step some room packet reply long e q s' r
     }
 
 pub turned-window : (window : List ℕ) (p : Progress) (kept : List ℕ) (s : State) (out : List ℕ) (t : Taken) (kept' : List ℕ)
-    → ReaderStep window p.at p.matched p.have kept t kept' → (t.place ≡ 0 → ⊥) → t.place ≡ 1 → p.size + lineRoom ≤ length out
+    → ReaderStep window p.at p.matched p.have kept t kept' → (t.place ≡ 0 → ⊥) → t.place ≡ 1 → p.size + line_room ≤ length out
     → (reply : List ℕ) → 512 ≤ length reply → (q : Progress) (s' : State) (reply' out' : List ℕ)
-    → Answered (take (t.end - t.start) (drop t.start window)) (readTo p t) s reply out q s' reply' out'
+    → Answered (take (t.end - t.start) (drop t.start window)) (read_to p t) s reply out q s' reply' out'
     → Turned window p kept s reply out q kept' s' reply' out'
 turned-window window p kept s out t kept' step some e room reply long q s' reply' out' a =
     let there : take (t.end - t.start) (drop t.start window) ≡ found t window kept' = rw (eq-eqb t.place 1 e) in
     turned-one window p kept s out t kept' step some room (take (t.end - t.start) (drop t.start window)) reply long there q s' reply' out' a
 
 pub turned-kept : (window : List ℕ) (p : Progress) (kept : List ℕ) (s : State) (out : List ℕ) (t : Taken) (kept' : List ℕ)
-    → ReaderStep window p.at p.matched p.have kept t kept' → (t.place ≡ 0 → ⊥) → (t.place ≡ 1 → ⊥) → p.size + lineRoom ≤ length out
+    → ReaderStep window p.at p.matched p.have kept t kept' → (t.place ≡ 0 → ⊥) → (t.place ≡ 1 → ⊥) → p.size + line_room ≤ length out
     → (reply : List ℕ) → 512 ≤ length reply → (q : Progress) (s' : State) (reply' out' : List ℕ)
-    → Answered (take (t.end - t.start) (drop t.start kept')) (readTo p t) s reply out q s' reply' out'
+    → Answered (take (t.end - t.start) (drop t.start kept')) (read_to p t) s reply out q s' reply' out'
     → Turned window p kept s reply out q kept' s' reply' out'
 turned-kept window p kept s out t kept' step some e room reply long q s' reply' out' a =
     let there : take (t.end - t.start) (drop t.start kept') ≡ found t window kept' = rw (ne_eqb t.place 1 e) in
@@ -305,12 +305,12 @@ pub record Loop (window : List ℕ) (from : Progress) (kept : List ℕ) (s : Sta
   pub forward : from.at ≤ p.at
   pub inside : p.at ≤ length window
   pub filled : p.size ≤ length out'
-  pub have-most : p.have ≤ mostRecord
+  pub have-most : p.have ≤ most_record
   pub kept-long : length kept' ≡ length kept
   pub reply-long : length reply' ≡ length reply
   pub out-long : length out' ≡ length out
 
-pub roomy : (kept reply : List ℕ) (have : ℕ) → roomsRight kept reply have ≡ true → RoomsEnough kept reply have
+pub roomy : (kept reply : List ℕ) (have : ℕ) → rooms_right kept reply have ≡ true → RoomsEnough kept reply have
 roomy kept reply have e =
     record {
       for-record = leb-true 515 (length kept) (and_left (leb 515 (length kept)) (leb 512 (length reply)) (and_left _ (leb have 65537) e));
@@ -318,13 +318,13 @@ roomy kept reply have e =
       for-have = leb-true have 65537 (and_right (leb 515 (length kept) && leb 512 (length reply)) (leb have 65537) e);
     }
 
-pub not-roomy : (kept reply : List ℕ) (have : ℕ) → roomsRight kept reply have ≡ false → RoomsEnough kept reply have → ⊥
+pub not-roomy : (kept reply : List ℕ) (have : ℕ) → rooms_right kept reply have ≡ false → RoomsEnough kept reply have → ⊥
 not-roomy kept reply have e r =
     true≢false
     (sym (rw (le-leb 515 (length kept) r.for-record, le-leb 512 (length reply) r.for-reply, le-leb have 65537 r.for-have) refl) ∙ e)
 
 -- Rooms that are too short: nothing is taken.
-pub window-none : (window : List ℕ) (from : Progress) (kept : List ℕ) (s : State) (reply out : List ℕ) → roomsRight kept reply from.have ≡ false
+pub window-none : (window : List ℕ) (from : Progress) (kept : List ℕ) (s : State) (reply out : List ℕ) → rooms_right kept reply from.have ≡ false
     → WindowReplayed window from kept s reply out (begun from) kept s reply out
 window-none window from kept s reply out wrong =
     record {
@@ -337,7 +337,7 @@ window-none window from kept s reply out wrong =
       refused = λ n. record { progress-same = refl; kept_same = refl; state-same = refl; reply-same = refl; out-same = refl };
     }
 
-pub loop-start : (window : List ℕ) (p : Progress) (kept : List ℕ) (s : State) (reply out : List ℕ) → p.at ≡ 0 → p.size ≡ 0 → p.have ≤ mostRecord
+pub loop-start : (window : List ℕ) (p : Progress) (kept : List ℕ) (s : State) (reply out : List ℕ) → p.at ≡ 0 → p.size ≡ 0 → p.have ≤ most_record
     → Loop window p kept s reply out p kept s reply out
 loop-start window p kept s reply out a z most =
     record {
@@ -354,7 +354,7 @@ loop-start window p kept s reply out a z most =
 
 pub loop-turn : {window : List ℕ} {from p q : Progress} {kept kept' kept'' : List ℕ} {s s' s'' : State} {reply reply' reply'' : List ℕ}
     {out out' out'' : List ℕ} → Loop window from kept s reply out p kept' s' reply' out' → p.at < length window
-    → (p.size + lineRoom ≤ length out') × (p.number < mostRecords) → Turned window p kept' s' reply' out' q kept'' s'' reply'' out''
+    → (p.size + line_room ≤ length out') × (p.number < most_records) → Turned window p kept' s' reply' out' q kept'' s'' reply'' out''
     → length kept'' ≡ length kept' → length reply'' ≡ length reply' → length out'' ≡ length out'
     → Loop window from kept s reply out q kept'' s'' reply'' out''
 loop-turn {window} l left room t k r o =
@@ -371,16 +371,16 @@ loop-turn {window} l left room t k r o =
     }
 
 -- What a line more asks for.
-pub room-true : (size number : ℕ) (out : List ℕ) → hasRoom size number out ≡ true → (size + lineRoom ≤ length out) × (number < mostRecords)
+pub room-true : (size number : ℕ) (out : List ℕ) → has_room size number out ≡ true → (size + line_room ≤ length out) × (number < most_records)
 room-true size number out e =
-    (leb-true (size + lineRoom) (length out) (and_left _ (ltb number mostRecords) e), ltb-true number mostRecords (and_right (leb (size + lineRoom) (length out)) _ e))
+    (leb-true (size + line_room) (length out) (and_left _ (ltb number most_records) e), ltb-true number most_records (and_right (leb (size + line_room) (length out)) _ e))
 
-room-false : (p : Progress) (out : List ℕ) → hasRoom p.size p.number out ≡ false → Full p out
-room-false p out e = go (leb (p.size + lineRoom) (length out)) refl e
+room-false : (p : Progress) (out : List ℕ) → has_room p.size p.number out ≡ false → Full p out
+room-false p out e = go (leb (p.size + line_room) (length out)) refl e
   where
-    go : (b : Bool) → leb (p.size + lineRoom) (length out) ≡ b → (b && ltb p.number mostRecords) ≡ false → Full p out
-    go false f g = inl (leb-false (p.size + lineRoom) (length out) f)
-    go true f g = inr (ltb-false p.number mostRecords g)
+    go : (b : Bool) → leb (p.size + line_room) (length out) ≡ b → (b && ltb p.number most_records) ≡ false → Full p out
+    go false f g = inl (leb-false (p.size + line_room) (length out) f)
+    go true f g = inr (ltb-false p.number most_records g)
 
 pub window-all : {window : List ℕ} {from : Progress} {kept : List ℕ} {s : State} {reply out : List ℕ} {p : Progress} {kept' : List ℕ} {s' : State}
     {reply' out' : List ℕ} → RoomsEnough kept reply from.have → Loop window (begun from) kept s reply out p kept' s' reply' out' → length window ≤ p.at
@@ -398,7 +398,7 @@ window-all rooms l all =
 
 pub window-full : {window : List ℕ} {from : Progress} {kept : List ℕ} {s : State} {reply out : List ℕ} {p : Progress} {kept' : List ℕ} {s' : State}
     {reply' out' : List ℕ} → RoomsEnough kept reply from.have → Loop window (begun from) kept s reply out p kept' s' reply' out'
-    → hasRoom p.size p.number out' ≡ false → WindowReplayed window from kept s reply out p kept' s' reply' out'
+    → has_room p.size p.number out' ≡ false → WindowReplayed window from kept s reply out p kept' s' reply' out'
 window-full {p = p} {out' = out'} rooms l full =
     record {
       replayed = l.replayed;

@@ -3,7 +3,7 @@
 use Rattle.std.specs.Prelude.{ℕ, ◌+◌, ◌<◌, ◌≡◌, List, [], ◌∷◌, ◌++◌, length, take, drop, get_or}
 use Rattle.text.specs.Plain.{Decimal, InHex}
 use Rattle.session_file.specs.Plain.{HasPreamble, Splits}
-use Rattle.front_end.specs.State.{State, resetState}
+use Rattle.front_end.specs.State.{State, reset_state}
 use Rattle.front_end.specs.Step.{step}
 
 -- Rule 9.6: so many records can be counted: fewer than 2^64 - 1; and those of a file can.
@@ -48,6 +48,6 @@ pub data Closes (number have : ℕ) : List ℕ → Type 0 where
 -- first five bytes are not there or differ.
 pub data Printed (file : List ℕ) : List ℕ → State → Type 0 where
   other : (HasPreamble file → ⊥)
-      → Printed file (110 ∷ 111 ∷ 116 ∷ 32 ∷ 97 ∷ 32 ∷ 115 ∷ 101 ∷ 115 ∷ 115 ∷ 105 ∷ 111 ∷ 110 ∷ 10 ∷ []) resetState
+      → Printed file (110 ∷ 111 ∷ 116 ∷ 32 ∷ 97 ∷ 32 ∷ 115 ∷ 101 ∷ 115 ∷ 115 ∷ 105 ∷ 111 ∷ 110 ∷ 10 ∷ []) reset_state
   session : {packets : List (List ℕ)} {rest buffer a b : List ℕ} {s : State} → HasPreamble file → Splits (drop 5 file) packets rest → Fresh buffer
-      → Recounts buffer 0 packets resetState a s → Closes (length packets) (length rest) b → Printed file (a ++ b) s
+      → Recounts buffer 0 packets reset_state a s → Closes (length packets) (length rest) b → Printed file (a ++ b) s

@@ -2,21 +2,21 @@
 use Rattle.std.specs.Prelude.{ℕ, ◌+◌, ◌≤◌, ◌<◌, ◌≡◌, ◌⊎◌, Bool, cond, ◌&&◌, List, [], ◌++◌, length, eqb, leb, ltb}
 use Rattle.std.proofs.lemmas.List.Edits.{sets}
 use Rattle.text.specs.Text.{Puts}
-use Rattle.front_end.specs.State.{State, replyRoom}
+use Rattle.front_end.specs.State.{State, reply_room}
 use Rattle.front_end.specs.Step.{step}
 use Rattle.session_file.specs.Session.{Run, taken}
 use Rattle.session_file.specs.declared.Taken.{Taken}
-use Rattle.session_file.specs.Windows.{keptSize, mostRecord, part, nowhere, found, nextTaken, nextKept, ReaderStands}
+use Rattle.session_file.specs.Windows.{kept_size, most_record, part, nowhere, found, next_taken, next_kept, ReaderStands}
 use Rattle.playback.specs.declared.Progress.{Progress}
-use Rattle.playback.specs.Replay.{line_of, lines, stateAfterRecords, unreadableLine, closing, Formed}
+use Rattle.playback.specs.Replay.{line_of, lines, state_after_records, unreadable_line, closing, Formed}
 
 -- Room for any line: two numbers, 512 bytes in hex, a blank and a newline.
-abbrev pub lineRoom : ℕ
-lineRoom = 1578
+abbrev pub line_room : ℕ
+line_room = 1578
 
 -- The most records that are counted.
-abbrev pub mostRecords : ℕ
-mostRecords = 18446744073709551615
+abbrev pub most_records : ℕ
+most_records = 18446744073709551615
 
 abbrev pub progress : ℕ → ℕ → ℕ → ℕ → ℕ → Progress
 progress at size matched number have =
@@ -31,7 +31,7 @@ begun p = progress 0 0 p.matched p.number p.have
 pub record ReplayStands (first : State) (r : Run) (p : Progress) (kept : List ℕ) (s : State) : Type 0 where
   pub reader : ReaderStands r p.matched p.have kept
   pub number : p.number ≡ length r.whole
-  pub state : s ≡ stateAfterRecords r.whole first
+  pub state : s ≡ state_after_records r.whole first
 
 -- The bytes taken from the window have taken the run on, and the text is that of the records that
 -- became whole by them.
@@ -52,21 +52,21 @@ pub record Replayed (window : List ℕ) (from : Progress) (kept : List ℕ) (s :
 -- Bytes of the window are left only where the output has no room for another line, or the count of
 -- records is at its end.
 abbrev pub Full : Progress → List ℕ → Type 0
-Full p out = (length out < p.size + lineRoom) ⊎ (mostRecords ≤ p.number)
+Full p out = (length out < p.size + line_room) ⊎ (most_records ≤ p.number)
 
 -- Whether a line more can be printed and counted.
-abbrev pub hasRoom : ℕ → ℕ → List ℕ → Bool
-hasRoom size number out = leb (size + lineRoom) (length out) && ltb number mostRecords
+abbrev pub has_room : ℕ → ℕ → List ℕ → Bool
+has_room size number out = leb (size + line_room) (length out) && ltb number most_records
 
 -- The rooms that a replay is lent are long enough, and no more bytes are said to be under way than
 -- a record has.
 pub record RoomsEnough (kept reply : List ℕ) (have : ℕ) : Type 0 where
-  pub for-record : keptSize ≤ length kept
-  pub for-reply : replyRoom ≤ length reply
-  pub for-have : have ≤ mostRecord
+  pub for-record : kept_size ≤ length kept
+  pub for-reply : reply_room ≤ length reply
+  pub for-have : have ≤ most_record
 
-abbrev pub roomsRight : List ℕ → List ℕ → ℕ → Bool
-roomsRight kept reply have = leb keptSize (length kept) && leb replyRoom (length reply) && leb have mostRecord
+abbrev pub rooms_right : List ℕ → List ℕ → ℕ → Bool
+rooms_right kept reply have = leb kept_size (length kept) && leb reply_room (length reply) && leb have most_record
 
 -- Rooms that are too short: nothing is taken, and all is as it was.
 pub record Refused (from : Progress) (kept : List ℕ) (s : State) (reply out : List ℕ)
@@ -95,25 +95,25 @@ read_on g t kept =
 
 -- Rule 9.2: a record's packet goes to the front end, which writes over the reply buffer, and its
 -- line stands behind what the output had.
-abbrev pub lineNow : List ℕ → Going → List ℕ
-lineNow packet g = line_of (g.now.number + 1) (step packet g.state g.reply)
+abbrev pub line_now : List ℕ → Going → List ℕ
+line_now packet g = line_of (g.now.number + 1) (step packet g.state g.reply)
 
 abbrev pub answer_of : List ℕ → Going → Going
 answer_of packet g =
     going
-    (progress g.now.at (g.now.size + length (lineNow packet g)) g.now.matched (g.now.number + 1) g.now.have)
+    (progress g.now.at (g.now.size + length (line_now packet g)) g.now.matched (g.now.number + 1) g.now.have)
     g.kept (step packet g.state g.reply).state (step packet g.state g.reply).reply
-    (sets g.out g.now.size (lineNow packet g))
+    (sets g.out g.now.size (line_now packet g))
 
 -- One turn: a step of the reader, and the answer to a record that became whole by it.
-unfoldable pub turnBy : List ℕ → Going → Taken → List ℕ → Going
-turnBy window g t kept =
+unfoldable pub turn_by : List ℕ → Going → Taken → List ℕ → Going
+turn_by window g t kept =
     cond (eqb t.place nowhere) (read_on g t kept) (answer_of (found t window kept) (read_on g t kept))
 
 unfoldable pub turn_of : List ℕ → Going → Going
 turn_of window g =
-    turnBy window g (nextTaken window g.now.at g.now.matched g.now.have g.kept)
-    (nextKept window g.now.at g.now.matched g.now.have g.kept)
+    turn_by window g (next_taken window g.now.at g.now.matched g.now.have g.kept)
+    (next_kept window g.now.at g.now.matched g.now.have g.kept)
 
 -- Turn after turn, and it stops at the first place where the window is used up, the output has no
 -- room for another line, or the count of records is at its end.
@@ -130,7 +130,7 @@ pub record WindowReplayed (window : List ℕ) (from : Progress) (kept : List ℕ
   pub inside : p.at ≤ length window
   pub filled : p.size ≤ length out'
   pub rest : RoomsEnough kept reply from.have → p.at < length window → Full p out'
-  pub have-most : RoomsEnough kept reply from.have → p.have ≤ mostRecord
+  pub have-most : RoomsEnough kept reply from.have → p.have ≤ most_record
   pub turns : RoomsEnough kept reply from.have → WindowTurns window (going (begun from) kept s reply out) (going p kept' s' reply' out')
   pub refused : (RoomsEnough kept reply from.have → ⊥) → Refused from kept s reply out p kept' s' reply' out'
 
@@ -140,21 +140,21 @@ pub record Carries (bytes : List ℕ) (from : Progress) (kept : List ℕ) (s : S
   pub stands : (first : State) (r : Run) → ReplayStands first r from kept s → ReplayStands first (taken r bytes) p kept' s'
 
 -- Room for the lines behind the last record, and for the first of them.
-abbrev pub closingRoom : ℕ
-closingRoom = 50
+abbrev pub closing_room : ℕ
+closing_room = 50
 
-abbrev pub cutRoom : ℕ
-cutRoom = 25
+abbrev pub cut_room : ℕ
+cut_room = 25
 
 -- What is printed behind the last record: nothing without room, or with the count of records at its
 -- end.
-abbrev pub closingText : Progress → List ℕ → List ℕ
-closingText p out =
-    cond (leb closingRoom (length out) && ltb p.number mostRecords) (closing p.matched p.number p.have) []
+abbrev pub closing_text : Progress → List ℕ → List ℕ
+closing_text p out =
+    cond (leb closing_room (length out) && ltb p.number most_records) (closing p.matched p.number p.have) []
 
 -- Rule 9.7: what is printed where no more can be read: nothing without room.
-abbrev pub unreadableText : List ℕ → List ℕ
-unreadableText out = cond (leb closingRoom (length out)) unreadableLine []
+abbrev pub unreadable_text : List ℕ → List ℕ
+unreadable_text out = cond (leb closing_room (length out)) unreadable_line []
 
 -- ---- The steps of the code.
 
@@ -168,7 +168,7 @@ pub record Answered (packet : List ℕ) (q : Progress) (s : State) (reply out : 
   pub at : p.at ≡ q.at
   pub matched : p.matched ≡ q.matched
   pub have : p.have ≡ q.have
-  pub fits : p.size ≤ q.size + lineRoom
+  pub fits : p.size ≤ q.size + line_room
 
 -- A turn takes a byte at least, and stays inside what is lent.
 pub record Turned (window : List ℕ) (from : Progress) (kept : List ℕ) (s : State) (reply out : List ℕ)
@@ -178,4 +178,4 @@ pub record Turned (window : List ℕ) (from : Progress) (kept : List ℕ) (s : S
   pub some : from.at < p.at
   pub inside : p.at ≤ length window
   pub filled : p.size ≤ length out
-  pub have-most : p.have ≤ mostRecord
+  pub have-most : p.have ≤ most_record

@@ -1,13 +1,15 @@
 // Replays a session file, window by window: a line for each record that becomes whole.
+#![tactic(auto)]
+
 ghost use Rattle.std.specs.Prelude.{◌+◌, ◌≤◌, ◌<◌, ◌≡◌, length, take};
 ghost use Rattle.text.specs.Text.{decimal, hex, Puts};
 ghost use Rattle.text.specs.Plain.{Decimal, Hex};
-ghost use Rattle.front_end.specs.State.{state, replyRoom};
-ghost use Rattle.session_file.specs.Windows.{keptSize, mostRecord};
-ghost use Rattle.playback.specs.Replay.{line, cutText, endLine};
+ghost use Rattle.front_end.specs.State.{state, reply_room};
+ghost use Rattle.session_file.specs.Windows.{kept_size, most_record};
+ghost use Rattle.playback.specs.Replay.{line, cut_text, end_line};
 ghost use Rattle.playback.specs.WholeFiles.{WholeFiles};
-ghost use Rattle.playback.specs.Windows.{lineRoom, mostRecords, hasRoom, roomsRight, Answered, Turned, WindowReplayed};
-ghost use Rattle.playback.specs.Windows.{cutRoom, closingRoom, closingText, unreadableText};
+ghost use Rattle.playback.specs.Windows.{line_room, most_records, «has_room», «rooms_right», Answered, Turned, WindowReplayed};
+ghost use Rattle.playback.specs.Windows.{cut_room, closing_room, closing_text, unreadable_text};
 
 use front_end::REPLY_ROOM;
 
@@ -66,7 +68,7 @@ pub fn replay(
 
 // Whether what is lent is long enough, and what is under way no longer than a record.
 fn rooms_right(kept: &[u8], reply: &[u8], have: usize) -> bool
-    ensures { result ≡ roomsRight kept.now reply.now have }
+    ensures { result ≡ «rooms_right» kept.now reply.now have }
 {
     if kept.len() < session_file::KEPT_SIZE {
         return false;
@@ -79,7 +81,7 @@ fn rooms_right(kept: &[u8], reply: &[u8], have: usize) -> bool
 
 // Whether another line can be printed, and its record counted.
 fn has_room(size: usize, number: u64, out: &[u8]) -> bool
-    ensures { result ≡ hasRoom size number out.now }
+    ensures { result ≡ «has_room» size number out.now }
 {
     if out.len() < LINE_ROOM {
         return false;
@@ -102,8 +104,8 @@ fn turn(
     reply: &mut [u8],
     out: &mut [u8],
 ) -> Progress
-    requires { (p.at < length window.now) × (keptSize ≤ length kept.old) × (replyRoom ≤ length reply.old)
-        × (p.have ≤ mostRecord) × (p.size + lineRoom ≤ length out.old) × (p.number < mostRecords) }
+    requires { (p.at < length window.now) × (kept_size ≤ length kept.old) × (reply_room ≤ length reply.old)
+        × (p.have ≤ most_record) × (p.size + line_room ≤ length out.old) × (p.number < most_records) }
     ensures { Turned window.now p kept.old
         (state block.old staged.old live.old gains.old) reply.old out.old
         result kept.new (state block.new staged.new live.new gains.new) reply.new out.new }
@@ -148,7 +150,7 @@ fn answer(
     reply: &mut [u8],
     out: &mut [u8],
 ) -> Progress
-    requires { (q.size + lineRoom ≤ length out.old) × (q.number < mostRecords) }
+    requires { (q.size + line_room ≤ length out.old) × (q.number < most_records) }
     ensures { Answered packet.now q (state block.old staged.old live.old gains.old)
         reply.old out.old result (state block.new staged.new live.new gains.new) reply.new out.new }
 {
@@ -166,9 +168,9 @@ fn answer(
 
 // Number, status, and the first n bytes of the reply.
 fn put_line(out: &mut [u8], at: usize, number: u64, status: u64, reply: &[u8], n: usize) -> usize
-    requires { (at + lineRoom ≤ length out.old) × (n ≤ length reply.now) × (n ≤ replyRoom) }
+    requires { (at + line_room ≤ length out.old) × (n ≤ length reply.now) × (n ≤ reply_room) }
     ensures { Puts at (line number status (take n reply.now)) out.old out.new result
-        × (result ≤ at + lineRoom) × Decimal number (decimal number) × Decimal status (decimal status)
+        × (result ≤ at + line_room) × Decimal number (decimal number) × Decimal status (decimal status)
         × Hex (take n reply.now) (hex (take n reply.now)) }
 {
     let behind_number = text::put_number(out, at, number);
@@ -181,7 +183,7 @@ fn put_line(out: &mut [u8], at: usize, number: u64, status: u64, reply: &[u8], n
 // The lines behind the last record, over the start of the output: nothing where there is no room,
 // or no number left for a record that is cut.
 pub fn finish(p: Progress, out: &mut [u8]) -> usize
-    ensures { Puts 0 (closingText p out.old) out.old out.new result × (result ≤ length out.new) }
+    ensures { Puts 0 (closing_text p out.old) out.old out.new result × (result ≤ length out.new) }
 {
     if out.len() < CLOSING_ROOM {
         return 0;
@@ -198,8 +200,8 @@ pub fn finish(p: Progress, out: &mut [u8]) -> usize
 
 // The record that is cut, if one is.
 fn put_cut(out: &mut [u8], number: u64, have: usize) -> usize
-    requires { (closingRoom ≤ length out.old) × (number < mostRecords) }
-    ensures { Puts 0 (cutText number have) out.old out.new result × (result ≤ cutRoom) }
+    requires { (closing_room ≤ length out.old) × (number < most_records) }
+    ensures { Puts 0 (cut_text number have) out.old out.new result × (result ≤ cut_room) }
 {
     if have == 0 {
         return 0;
@@ -210,8 +212,8 @@ fn put_cut(out: &mut [u8], number: u64, have: usize) -> usize
 
 // The count of whole records.
 fn put_end(out: &mut [u8], at: usize, number: u64) -> usize
-    requires { (closingRoom ≤ length out.old) × (at ≤ cutRoom) }
-    ensures { Puts at (endLine number) out.old out.new result × (result ≤ closingRoom) }
+    requires { (closing_room ≤ length out.old) × (at ≤ cut_room) }
+    ensures { Puts at (end_line number) out.old out.new result × (result ≤ closing_room) }
 {
     let behind_end = text::put_text(out, at, b"end ");
     let behind_number = text::put_number(out, behind_end, number);
@@ -221,7 +223,7 @@ fn put_end(out: &mut [u8], at: usize, number: u64) -> usize
 // Rule 9.7: the line for an input that can't be read, over the start of the output: nothing where
 // there is no room.
 pub fn unreadable(out: &mut [u8]) -> usize
-    ensures { Puts 0 (unreadableText out.old) out.old out.new result × (result ≤ length out.new) }
+    ensures { Puts 0 (unreadable_text out.old) out.old out.new result × (result ≤ length out.new) }
 {
     if out.len() < CLOSING_ROOM {
         return 0;

@@ -1,5 +1,7 @@
 // The plain promises determine every answer: two outcomes of an entry that both meet them are equal
 // (see specs/ and proofs/).
+#![tactic(auto)]
+
 ghost use Rattle.promises.specs.Determined.{Named, OnNumbers, OnBytes, ForC};
 ghost use Rattle.promises.specs.Promised.{Promised};
 

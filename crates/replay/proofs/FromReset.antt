@@ -14,18 +14,18 @@ use lib.Seq.{length-take-le}
 use lib.ListN.{length, take}
 use Rattle.io.specs.Counts.{clamp_len}
 use Rattle.text.specs.Text.{Puts}
-use Rattle.front_end.specs.State.{State, ResetOut, reset, resetState}
-use Rattle.front_end.specs.Calls.{stateAfterAll}
+use Rattle.front_end.specs.State.{State, ResetOut, reset, reset_state}
+use Rattle.front_end.specs.Calls.{state_after_all}
 use Rattle.front_end.specs.Plain.{StateLent}
 use Rattle.front_end.specs.Demands.{Resets}
 use Rattle.front_end.proofs.Demands.{state-lent}
-use Rattle.session_file.specs.Session.{Run, taken, spoiled, fileRun, start}
+use Rattle.session_file.specs.Session.{Run, taken, spoiled, file_run, start}
 use Rattle.session_file.specs.Plain.{HasPreamble}
 use Rattle.session_file.proofs.Runs.{taken-append}
 use Rattle.session_file.proofs.File.{file-read}
 use Rattle.playback.specs.declared.Progress.{Progress}
-use Rattle.playback.specs.Windows.{ReplayStands, Carries, mostRecords, closingRoom, closingText, unreadableText}
-use Rattle.playback.specs.Replay.{«lines» as lines_of, «closing» as closingOf, text_of, replayText, stateAfterRecords, endState}
+use Rattle.playback.specs.Windows.{ReplayStands, Carries, most_records, closing_room, closing_text, unreadable_text}
+use Rattle.playback.specs.Replay.{«lines» as lines_of, «closing» as closingOf, text_of, replay_text, state_after_records, end_state}
 use Rattle.playback.specs.Plain.{Counted, Countable, Closes, Printed}
 use Rattle.playback.proofs.Turns.{carry-as}
 use Rattle.playback.proofs.Files.{closing-none}
@@ -36,13 +36,13 @@ use Rattle.replay.specs.Played.{Played, way_of, carried, onward, TakenIn, Window
 
 -- ---- From reset.
 
-pub from-reset : {s : State} {o : ResetOut} → Resets s o → StateLent s → o.state ≡ resetState
+pub from-reset : {s : State} {o : ResetOut} → Resets s o → StateLent s → o.state ≡ reset_state
 unfolding reset
 from-reset {s} {o} r l = ap (λ (x : ResetOut). x.state) r.outcome ∙ rw ((state-lent s).1 l) refl
 
-stands-none : (s : BetweenReads) (kept : List ℕ) (t : State) → t ≡ resetState → s.matched ≡ 0 → s.number ≡ 0 → s.have ≡ 0
-    → ReplayStands resetState (fileRun []) (carried s) kept t
-unfolding stateAfterAll taken fileRun
+stands-none : (s : BetweenReads) (kept : List ℕ) (t : State) → t ≡ reset_state → s.matched ≡ 0 → s.number ≡ 0 → s.have ≡ 0
+    → ReplayStands reset_state (file_run []) (carried s) kept t
+unfolding state_after_all taken file_run
 stands-none s kept t e m n h =
     record {
       reader = record { preamble-bytes = m; record-bytes = h; record-front = rw h refl; record-cut = record { short = λ two. omega arith } };
@@ -73,10 +73,10 @@ way-onward (pos (suc k)) most q room fine =
     way-fine (ltb (suc k) 0) (min (suc k) most) q fine ∙ rw (le-ltb (suc k) 0 (omega arith), ne_eqb (min (suc k) most) 0 (λ e. omega arith)) refl
 
 -- A file whose preamble is spoiled is no session.
-not-matched : (bytes : List ℕ) (matched : ℕ) → matched ≡ (fileRun bytes).matched → matched ≡ spoiled → HasPreamble bytes → ⊥
+not-matched : (bytes : List ℕ) (matched : ℕ) → matched ≡ (file_run bytes).matched → matched ≡ spoiled → HasPreamble bytes → ⊥
 not-matched bytes matched e six preamble = omega (arith, e, six, (file-read bytes).session.1 preamble)
 
-goes_on : {got : ℤ} {bytes : List ℕ} {matched how : ℕ} → how ≡ onward got matched → matched ≡ (fileRun bytes).matched → GoesOn got bytes how
+goes_on : {got : ℤ} {bytes : List ℕ} {matched how : ℕ} → how ≡ onward got matched → matched ≡ (file_run bytes).matched → GoesOn got bytes how
 unfolding onward
 goes_on {got} {bytes} {matched} {how} e read =
     record {
@@ -122,10 +122,10 @@ pub record SoFar (s : BetweenReads) (kept : List ℕ) (t : State) (turns : ℕ) 
   pub count : ℕ
   pub bytes : List ℕ
   pub reads : Reads count s.how bytes
-  pub stands : (s.how ≡ 3 → ⊥) → ReplayStands resetState (fileRun bytes) (carried s) kept t
+  pub stands : (s.how ≡ 3 → ⊥) → ReplayStands reset_state (file_run bytes) (carried s) kept t
   pub turns-left : s.how ≡ 0 → count + turns ≡ 18446744073709551615
 
-pub start_of : {s : BetweenReads} {kept : List ℕ} {t : State} → t ≡ resetState → s.matched ≡ 0 → s.number ≡ 0 → s.have ≡ 0 → s.how ≡ 0
+pub start_of : {s : BetweenReads} {kept : List ℕ} {t : State} → t ≡ reset_state → s.matched ≡ 0 → s.number ≡ 0 → s.have ≡ 0 → s.how ≡ 0
     → SoFar s kept t 18446744073709551615
 start_of {s} {kept} {t} e m n h w =
     record {
@@ -138,7 +138,7 @@ start_of {s} {kept} {t} e m n h w =
 
 pub one_more : {s s' : BetweenReads} {window kept kept' : List ℕ} {t t' : State} {turns turns' long : ℕ} → SoFar s kept t turns → s.how ≡ 0
     → WindowTaken s kept t window s' kept' t' → length window ≡ long → 0 < long → (s'.how ≡ 0 → turns' + 1 ≡ turns) → SoFar s' kept' t' turns'
-unfolding fileRun
+unfolding file_run
 one_more {s} {s'} {window} {kept} {kept'} {t} {t'} x more w same room left =
     record {
       count = suc x.count;
@@ -150,10 +150,10 @@ one_more {s} {s'} {window} {kept} {kept'} {t} {t'} x more w same room left =
       turns-left = λ z. omega (arith, x.turns-left more, left z);
     }
   where
-    stands : (s'.how ≡ 3 → ⊥) → ReplayStands resetState (fileRun (x.bytes ++ given w.got window)) (carried s') kept' t'
+    stands : (s'.how ≡ 3 → ⊥) → ReplayStands reset_state (file_run (x.bytes ++ given w.got window)) (carried s') kept' t'
     stands fine =
-        subst (λ (r : Run). ReplayStands resetState r (carried s') kept' t') (sym (taken-append start x.bytes (given w.got window)))
-        ((w.answered.taken fine).stands resetState (fileRun x.bytes) (x.stands (λ e. omega arith)))
+        subst (λ (r : Run). ReplayStands reset_state r (carried s') kept' t') (sym (taken-append start x.bytes (given w.got window)))
+        ((w.answered.taken fine).stands reset_state (file_run x.bytes) (x.stands (λ e. omega arith)))
 
 -- ---- The last lines, case by case.
 
@@ -170,55 +170,55 @@ none-put {s} three =
     }
 
 -- Where no more could be read.
-pub unread-put : {s : BetweenReads} {out out' : List ℕ} {size : ℕ} → (s.how ≡ 1 → ⊥) → (s.how ≡ 3 → ⊥) → Puts 0 (unreadableText out) out out' size
+pub unread-put : {s : BetweenReads} {out out' : List ℕ} {size : ℕ} → (s.how ≡ 1 → ⊥) → (s.how ≡ 3 → ⊥) → Puts 0 (unreadable_text out) out out' size
     → LastLines s out out' size
 unread-put {s} {out} not-ended written put =
     record {
-      text = unreadableText out;
+      text = unreadable_text out;
       put = put;
       lines =
           record {
             at-end = λ e room. absurd (not-ended e);
-            unread = λ one three room. rw (le-leb closingRoom (length out) room) refl;
-            unwritten = λ e. elim e [ inl three ↦ absurd (written three) | inr short ↦ rw (lt-leb closingRoom (length out) short) refl ];
+            unread = λ one three room. rw (le-leb closing_room (length out) room) refl;
+            unwritten = λ e. elim e [ inl three ↦ absurd (written three) | inr short ↦ rw (lt-leb closing_room (length out) short) refl ];
           };
     }
 
 -- At the end of the file.
-pub end-put : {s : BetweenReads} {out out' : List ℕ} {p : Progress} {size : ℕ} → s.how ≡ 1 → p ≡ carried s → Puts 0 (closingText p out) out out' size
+pub end-put : {s : BetweenReads} {out out' : List ℕ} {p : Progress} {size : ℕ} → s.how ≡ 1 → p ≡ carried s → Puts 0 (closing_text p out) out out' size
     → LastLines s out out' size
 end-put {s} {out} {out'} {p} {size} one same put =
     record {
-      text = closingText p out;
+      text = closing_text p out;
       put = put;
       lines =
           record {
-            at-end = λ e room. ap (λ (q : Progress). closingText q out) same;
+            at-end = λ e room. ap (λ (q : Progress). closing_text q out) same;
             unread = λ other. absurd (other one);
-            unwritten = λ e. elim e [ inl three ↦ absurd (one_of s one three) | inr short ↦ rw (lt-leb closingRoom (length out) short) refl ];
+            unwritten = λ e. elim e [ inl three ↦ absurd (one_of s one three) | inr short ↦ rw (lt-leb closing_room (length out) short) refl ];
           };
     }
 
 -- ---- The whole run.
 
 -- The records of a file that can be counted are few enough, and of no session there are none.
-few-records : (bytes : List ℕ) → Countable bytes → Counted (length (fileRun bytes).whole)
+few-records : (bytes : List ℕ) → Countable bytes → Counted (length (file_run bytes).whole)
 few-records bytes few =
     let read = file-read bytes in
-    elim (ℕ_discrete (fileRun bytes).matched 5) [
-      | yes five ↦ few (fileRun bytes).whole (fileRun bytes).under (read.splits (read.session.0 five))
+    elim (ℕ_discrete (file_run bytes).matched 5) [
+      | yes five ↦ few (file_run bytes).whole (file_run bytes).under (read.splits (read.session.0 five))
       | no other ↦ rw (read.none (λ preamble. other (read.session.1 preamble))) (omega arith)
     ]
 
-text-printed : {t : State} (bytes : List ℕ) → Countable bytes → t ≡ stateAfterRecords (fileRun bytes).whole resetState
-    → Printed bytes (lines_of 0 (fileRun bytes).whole resetState ++ closingOf (fileRun bytes).matched (length (fileRun bytes).whole) (length (fileRun bytes).under)) t
-unfolding replayText text_of endState
+text-printed : {t : State} (bytes : List ℕ) → Countable bytes → t ≡ state_after_records (file_run bytes).whole reset_state
+    → Printed bytes (lines_of 0 (file_run bytes).whole reset_state ++ closingOf (file_run bytes).matched (length (file_run bytes).whole) (length (file_run bytes).under)) t
+unfolding replay_text text_of end_state
 text-printed bytes few e = rw e (file-printed bytes few)
 
 closes-it : (bytes : List ℕ) → Countable bytes
-    → Closing bytes (closingOf (fileRun bytes).matched (length (fileRun bytes).whole) (length (fileRun bytes).under))
+    → Closing bytes (closingOf (file_run bytes).matched (length (file_run bytes).whole) (length (file_run bytes).under))
 closes-it bytes few =
-    let r : Run = fileRun bytes in
+    let r : Run = file_run bytes in
     let read = file-read bytes in
     elim (ℕ_discrete r.matched 5) [
       | yes five ↦
@@ -230,24 +230,24 @@ closes-it bytes few =
           rw (closing-none r.matched (length r.whole) (length r.under) wrong) (Closing.other (λ preamble. wrong (read.session.1 preamble)))
     ]
 
-closing-is : (s : BetweenReads) {kept : List ℕ} {t : State} (bytes out : List ℕ) → ReplayStands resetState (fileRun bytes) (carried s) kept t → Countable bytes
-    → closingRoom ≤ length out
-    → closingText (carried s) out ≡ closingOf (fileRun bytes).matched (length (fileRun bytes).whole) (length (fileRun bytes).under)
+closing-is : (s : BetweenReads) {kept : List ℕ} {t : State} (bytes out : List ℕ) → ReplayStands reset_state (file_run bytes) (carried s) kept t → Countable bytes
+    → closing_room ≤ length out
+    → closing_text (carried s) out ≡ closingOf (file_run bytes).matched (length (file_run bytes).whole) (length (file_run bytes).under)
 closing-is s bytes out stands few room =
-    let number : s.number < mostRecords = omega (arith, stands.number, few-records bytes few) in
-    rw (le-leb closingRoom (length out) room, lt-ltb s.number mostRecords number, stands.reader.preamble-bytes, stands.number, stands.reader.record-bytes) refl
+    let number : s.number < most_records = omega (arith, stands.number, few-records bytes few) in
+    rw (le-leb closing_room (length out) room, lt-ltb s.number most_records number, stands.reader.preamble-bytes, stands.number, stands.reader.record-bytes) refl
 
 pub ran : {last : BetweenReads} {kept out out' : List ℕ} {t : State} {turns : ℕ} → SoFar last kept t turns → turns ≡ 0 → Closed last out out'
     → RunPlain last.how t out'
 ran {last} {kept} {out} far done closed =
-    let r : Run = fileRun far.bytes in
+    let r : Run = file_run far.bytes in
     let text = closed.lines in
     record {
       count = far.count;
       bytes = far.bytes;
       reads = far.reads;
       stops = λ more. omega (arith, far.turns-left more, done);
-      lines = lines_of 0 r.whole resetState;
+      lines = lines_of 0 r.whole reset_state;
       closing = closingOf r.matched (length r.whole) (length r.under);
       printed = λ fine few. text-printed far.bytes few (far.stands fine).state;
       closes = closes-it far.bytes;

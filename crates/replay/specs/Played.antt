@@ -5,7 +5,7 @@ use Rattle.text.specs.Text.{Puts}
 use Rattle.front_end.specs.State.{State}
 use Rattle.session_file.specs.Session.{spoiled}
 use Rattle.playback.specs.declared.Progress.{Progress}
-use Rattle.playback.specs.Windows.{Carries, progress, closingText}
+use Rattle.playback.specs.Windows.{Carries, progress, closing_text}
 use Rattle.replay.specs.declared.BetweenReads.{BetweenReads}
 use Rattle.replay.specs.Plain.{given, LastText}
 
@@ -67,7 +67,7 @@ pub record WindowTaken (s : BetweenReads) (kept : List ℕ) (t : State) (window 
 pub record LastLines (s : BetweenReads) (out out' : List ℕ) (size : ℕ) : Type 0 where
   pub text : List ℕ
   pub put : Puts 0 text out out' size
-  pub lines : LastText s.how (length out) (closingText (carried s) out) text
+  pub lines : LastText s.how (length out) (closing_text (carried s) out) text
 
 -- They were put, and handed over to be written.
 pub record Closed (s : BetweenReads) (out out' : List ℕ) : Type 0 where

@@ -1,7 +1,9 @@
 // Replays the session file on standard input: a line a record, as rules 9.2 to 9.7 have them.
 // Reads, replays and writes; the text is playback's.
+#![tactic(auto)]
+
 ghost use Rattle.std.specs.Prelude.{◌+◌, ◌≤◌, ◌<◌, ◌≡◌, length};
-ghost use Rattle.front_end.specs.State.{state, resetState};
+ghost use Rattle.front_end.specs.State.{state, reset_state};
 ghost use Rattle.replay.specs.Played.{PlayedSome, Played, way_of, carried, TakenIn, WindowTaken, LastLines, Closed};
 ghost use Rattle.replay.specs.Plain.{RunPlain};
 
@@ -69,7 +71,7 @@ fn run(
     reply: &mut [u8],
     out: &mut [u8],
 ) -> BetweenReads
-    requires { (state block.old staged.old live.old gains.old ≡ resetState) × (0 < length window.old) }
+    requires { (state block.old staged.old live.old gains.old ≡ reset_state) × (0 < length window.old) }
     ensures { RunPlain result.how (state block.new staged.new live.new gains.new) out.new }
 {
     let mut s = BetweenReads {

@@ -13,11 +13,11 @@ use Rattle.wire.specs.Numbers.{word_bytes}
 use Rattle.wire.specs.Checksum.{checksum}
 use Rattle.wire.specs.Buffers.{over}
 use Rattle.wire.proofs.Laws.{take-over}
-use Rattle.reply.specs.Reply.{replyBytes}
-use Rattle.reply.specs.Reading.{checksumSize}
+use Rattle.reply.specs.Reply.{reply_bytes}
+use Rattle.reply.specs.Reading.{checksum_size}
 
-pub length-reply : (sum : Bool) (status : ℕ) (d : List ℕ) → length (replyBytes sum status d) ≡ length d + 3 + checksumSize sum
-unfolding replyBytes
+pub length-reply : (sum : Bool) (status : ℕ) (d : List ℕ) → length (reply_bytes sum status d) ≡ length d + 3 + checksum_size sum
+unfolding reply_bytes
 length-reply true status d = rw length-append (omega arith)
 length-reply false status d = rw (append-nil d) (omega arith)
 
@@ -44,16 +44,16 @@ module _ (status n : ℕ) (buffer : List ℕ) (room : n + 4 ≤ length buffer) w
   data-length : length (take n (drop 3 buffer)) ≡ n
   data-length = length-take-le n (drop 3 buffer) (rw length-drop (omega arith))
 
-  pub sealed-length : (sum : Bool) → n + 3 + checksumSize sum ≡ length (replyBytes sum status (take n (drop 3 buffer)))
+  pub sealed-length : (sum : Bool) → n + 3 + checksum_size sum ≡ length (reply_bytes sum status (take n (drop 3 buffer)))
   sealed-length sum = rw (length-reply sum status, data-length)
 
-  pub sealed-plain : sets (sets buffer 0 (status ∷ [])) 1 (word_bytes n) ≡ over (replyBytes false status (take n (drop 3 buffer))) buffer
-  unfolding replyBytes
+  pub sealed-plain : sets (sets buffer 0 (status ∷ [])) 1 (word_bytes n) ≡ over (reply_bytes false status (take n (drop 3 buffer))) buffer
+  unfolding reply_bytes
   sealed-plain = rw (append-nil (take n (drop 3 buffer))) (headed status n buffer (omega arith))
 
   pub sealed-summed : (w : List ℕ) → w ≡ sets (sets buffer 0 (status ∷ [])) 1 (word_bytes n)
-      → set w (n + 3) (checksum (take (n + 3) w)) ≡ over (replyBytes true status (take n (drop 3 buffer))) buffer
-  unfolding replyBytes
+      → set w (n + 3) (checksum (take (n + 3) w)) ≡ over (reply_bytes true status (take n (drop 3 buffer))) buffer
+  unfolding reply_bytes
   sealed-summed w e =
       let s : List ℕ = front status (take n (drop 3 buffer)) in
       let long : n + 3 ≡ length s = omega (arith, data-length) in
@@ -62,11 +62,11 @@ module _ (status n : ℕ) (buffer : List ℕ) (room : n + 4 ≤ length buffer) w
 
 -- Behind a reply only what lies behind its data counts.
 pub over-behind : (sum : Bool) (status : ℕ) (d b buffer : List ℕ) → drop (3 + length d) b ≡ drop (3 + length d) buffer
-    → over (replyBytes sum status d) b ≡ over (replyBytes sum status d) buffer
+    → over (reply_bytes sum status d) b ≡ over (reply_bytes sum status d) buffer
 unfolding over
 over-behind sum status d b buffer e =
-    let long : length (replyBytes sum status d) ≡ 3 + length d + checksumSize sum = omega (arith, length-reply sum status d) in
-    rw (long, ← drop-drop (checksumSize sum) (3 + length d) b, e, drop-drop (checksumSize sum) (3 + length d) buffer)
+    let long : length (reply_bytes sum status d) ≡ 3 + length d + checksum_size sum = omega (arith, length-reply sum status d) in
+    rw (long, ← drop-drop (checksum_size sum) (3 + length d) b, e, drop-drop (checksum_size sum) (3 + length d) buffer)
 
 -- The part behind the head was lent on and has come back with data d written over its start: d stands there, and what lies behind it is
 -- as it was. `put_mid 3 k buffer part` is the whole buffer then.
@@ -81,9 +81,9 @@ behind d r k g h =
     (rw (← drop-append-le (length d) (take k r) (drop k r) (rw (length-take-le k r h) g), take-append-drop))
 
 pub lent-on : (d buffer part : List ℕ) (k : ℕ) → length d ≤ k → k + 3 ≤ length buffer → part ≡ over d (mid_of 3 k buffer) → (sum : Bool) (status : ℕ)
-    → (length (replyBytes sum status (take (length d) (drop 3 (put_mid 3 k buffer part)))) ≡ length (replyBytes sum status d))
-    × (over (replyBytes sum status (take (length d) (drop 3 (put_mid 3 k buffer part)))) (put_mid 3 k buffer part)
-    ≡ over (replyBytes sum status d) buffer)
+    → (length (reply_bytes sum status (take (length d) (drop 3 (put_mid 3 k buffer part)))) ≡ length (reply_bytes sum status d))
+    × (over (reply_bytes sum status (take (length d) (drop 3 (put_mid 3 k buffer part)))) (put_mid 3 k buffer part)
+    ≡ over (reply_bytes sum status d) buffer)
 lent-on d [] part k g h e sum status = absurd (omega arith)
 lent-on d (x ∷ []) part k g h e sum status = absurd (omega arith)
 lent-on d (x ∷ y ∷ []) part k g h e sum status = absurd (omega arith)

@@ -4,8 +4,8 @@ use mathlib.Core.Path.{◌≡◌, refl}
 use mathlib.Core.Bool.{Bool}
 use mathlib.Core.List.{List}
 use Rattle.reply.specs.Answer.{ReplyAnswer}
-use Rattle.reply.specs.Reading.{replyReading, ReplyRead}
+use Rattle.reply.specs.Reading.{reply_reading, ReplyRead}
 use Rattle.reply.proofs.Plain.{reply-plain}
 
-pub reply-promised : (r : List ℕ) (sum : Bool) {a : ReplyAnswer} → a ≡ replyReading r sum → ReplyRead r sum a
+pub reply-promised : (r : List ℕ) (sum : Bool) {a : ReplyAnswer} → a ≡ reply_reading r sum → ReplyRead r sum a
 reply-promised r sum e = rw e (record { outcome = refl; plain = reply-plain r sum })

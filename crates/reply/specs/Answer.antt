@@ -11,10 +11,10 @@ pub record ReplyAnswer : Type 0 where
   pub place : ℕ
   pub size : ℕ
 
-abbrev pub replyRefusedBy : ℕ → ReplyAnswer
-replyRefusedBy n = record { number = n; status = 0; place = 0; size = 0 }
+abbrev pub reply_refused_by : ℕ → ReplyAnswer
+reply_refused_by n = record { number = n; status = 0; place = 0; size = 0 }
 
 -- Number and values of each case of the code's answer.
-abbrev pub replyAnswer : ReplyReading → ReplyAnswer
-replyAnswer (Reply status at size) = record { number = 0; status = status; place = at; size = size }
-replyAnswer (Refused number) = replyRefusedBy number
+abbrev pub reply_answer : ReplyReading → ReplyAnswer
+reply_answer (Reply status at size) = record { number = 0; status = status; place = at; size = size }
+reply_answer (Refused number) = reply_refused_by number

@@ -6,20 +6,20 @@ use Rattle.wire.specs.Numbers.{byte_at, word_at}
 use Rattle.wire.specs.Checksum.{weighted, checksum}
 use Rattle.wire.specs.Plain.{Least}
 use Rattle.reply.specs.declared.ReplyReading.TheVariants.{Reply, Refused}
-use Rattle.reply.specs.Answer.{ReplyAnswer, replyAnswer}
-use Rattle.reply.specs.Reply.{replyBytes}
+use Rattle.reply.specs.Answer.{ReplyAnswer, reply_answer}
+use Rattle.reply.specs.Reply.{reply_bytes}
 
 pub record Pinned : Type 0 where
   -- Rule 3.1: status, data length in two bytes, data; and, if there is to be one, a checksum over
   -- all these.
-  pub without-sum : (status : ℕ) (d : List ℕ) → replyBytes false status d ≡ status ∷ length d % 256 ∷ length d / 256 ∷ d
+  pub without-sum : (status : ℕ) (d : List ℕ) → reply_bytes false status d ≡ status ∷ length d % 256 ∷ length d / 256 ∷ d
   pub with-sum : (status : ℕ) (d : List ℕ)
-      → replyBytes true status d
+      → reply_bytes true status d
       ≡ (status ∷ length d % 256 ∷ length d / 256 ∷ d) ++ (weighted (status ∷ length d % 256 ∷ length d / 256 ∷ d) % 256 ∷ [])
   -- The code's answer: a reply has the number 0; of a refusal all but the number is 0.
   pub answer-reply : (status at size : ℕ)
-      → replyAnswer (Reply status at size) ≡ record { number = 0; status = status; place = at; size = size }
-  pub answer-refused : (number : ℕ) → replyAnswer (Refused number) ≡ record { number = number; status = 0; place = 0; size = 0 }
+      → reply_answer (Reply status at size) ≡ record { number = 0; status = status; place = at; size = size }
+  pub answer-refused : (number : ℕ) → reply_answer (Refused number) ≡ record { number = number; status = 0; place = 0; size = 0 }
 
 -- Rule 3.5: 2 below three bytes, or four where a checksum is expected; 3 over 512 bytes; 4 where
 -- the length does not count the data there; 5 where the last byte is not the checksum of those

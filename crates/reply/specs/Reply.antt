@@ -4,5 +4,5 @@ use Rattle.wire.specs.Numbers.{word_bytes}
 use Rattle.wire.specs.Checksum.{sealed}
 
 -- Rule 3.1: status, data length in two bytes, data, and behind them their checksum where the packet has one.
-unfoldable pub replyBytes : Bool → ℕ → List ℕ → List ℕ
-replyBytes sum status d = sealed sum (status ∷ (word_bytes (length d) ++ d))
+unfoldable pub reply_bytes : Bool → ℕ → List ℕ → List ℕ
+reply_bytes sum status d = sealed sum (status ∷ (word_bytes (length d) ++ d))

@@ -1,9 +1,11 @@
 // Replies: writing one behind its three-byte head, and reading one on the host's side.
+#![tactic(auto)]
+
 ghost use Rattle.std.specs.Prelude.{◌≡◌, ◌+◌, ◌<◌, ◌≤◌, length, take, drop};
 ghost use Rattle.wire.specs.Buffers.{Overwrites};
-ghost use Rattle.reply.specs.Reply.{replyBytes};
-ghost use Rattle.reply.specs.Answer.{replyAnswer, replyRefusedBy};
-ghost use Rattle.reply.specs.Reading.{ReplyRead, checksumSize, checksumWrong};
+ghost use Rattle.reply.specs.Reply.{reply_bytes};
+ghost use Rattle.reply.specs.Answer.{reply_answer, reply_refused_by};
+ghost use Rattle.reply.specs.Reading.{ReplyRead, «checksum_size», «checksum_wrong»};
 
 use wire::LONGEST;
 
@@ -17,7 +19,7 @@ pub enum ReplyReading {
 impl ReplyReading {
     // Why it is none; 0 where it is one.
     pub fn refusal(self) -> u8
-        ensures { result ≡ (replyAnswer self).number }
+        ensures { result ≡ (reply_answer self).number }
     {
         match self {
             ReplyReading::Refused(number) => number,
@@ -32,7 +34,7 @@ impl ReplyReading {
 
 // Reads a reply; checksum says whether one is expected.
 pub fn read_reply(reply: &[u8], checksum: bool) -> ReplyReading
-    ensures { ReplyRead reply.now checksum (replyAnswer result) }
+    ensures { ReplyRead reply.now checksum (reply_answer result) }
 {
     let n = reply.len();
     let extra = checksum_size(checksum);
@@ -62,7 +64,7 @@ pub fn read_reply(reply: &[u8], checksum: bool) -> ReplyReading
 
 // The bytes that a checksum takes.
 fn checksum_size(checksum: bool) -> usize
-    ensures { (result ≡ checksumSize checksum) × (result ≤ 1) }
+    ensures { (result ≡ «checksum_size» checksum) × (result ≤ 1) }
 {
     if checksum { 1 } else { 0 }
 }
@@ -70,7 +72,7 @@ fn checksum_size(checksum: bool) -> usize
 // Whether a checksum is expected and the last byte is not that of the bytes before it.
 fn checksum_wrong(reply: &[u8], checksum: bool) -> bool
     requires { 0 < length reply.now }
-    ensures { result ≡ checksumWrong reply.now checksum }
+    ensures { result ≡ «checksum_wrong» reply.now checksum }
 {
     if checksum {
         let n = reply.len() - 1;
@@ -81,7 +83,7 @@ fn checksum_wrong(reply: &[u8], checksum: bool) -> bool
 }
 
 fn refused(number: u8) -> ReplyReading
-    ensures { replyAnswer result ≡ replyRefusedBy number }
+    ensures { reply_answer result ≡ reply_refused_by number }
 {
     ReplyReading::Refused(number)
 }
@@ -89,7 +91,7 @@ fn refused(number: u8) -> ReplyReading
 // Puts the head before n bytes of data that stand at place 3, and the checksum behind them if checksum is set. Answers the reply's length.
 pub fn seal(reply: &mut [u8], status: usize, n: usize, checksum: bool) -> usize
     requires { (status < 256) × (n < 65536) × (n + 4 ≤ length reply.old) }
-    ensures { Overwrites result (replyBytes checksum status (take n (drop 3 reply.old)))
+    ensures { Overwrites result (reply_bytes checksum status (take n (drop 3 reply.old)))
         reply.old reply.new }
 {
     wire::put_byte(reply, 0, status);

@@ -1,8 +1,8 @@
 -- Rule 5.5: the rising test of 35h called alone, on the 188 bytes of its two lists: what the write that carries them in mode 1 is judged by.
 use Rattle.std.specs.Prelude.{ℕ, ◌+◌, ◌*◌, ◌<◌, ◌≡◌, List, ◌∷◌, length, get_or, eqb}
 use Rattle.wire.specs.First.{first}
-use Rattle.opcode.specs.Judgement.{judgement, faultPlace}
-use Rattle.settings.specs.Ranges.{listsRise}
+use Rattle.opcode.specs.Judgement.{judgement, fault_place}
+use Rattle.settings.specs.Ranges.{lists_rise}
 use Rattle.rising.specs.Plain.{RisingPlain}
 
 -- The write: its opcode, its options, which are bit 4 alone, a length field (rule 2.2), and its data, the mode 1 in front of the lists.
@@ -20,7 +20,7 @@ abbrev pub refusal : List ℕ → ℕ
 refusal lists = first (judgement opcode options (written lists))
 
 abbrev pub place : List ℕ → ℕ
-place lists = faultPlace (refusal lists) opcode options (written lists)
+place lists = fault_place (refusal lists) opcode options (written lists)
 
 -- Rules 1.3 and 4.6: both in one number, as the C entries have them: status in bits 0-7, place in 32-47.
 abbrev pub packed : ℕ → ℕ → ℕ
@@ -32,4 +32,4 @@ pub record RisingTold (lists : List ℕ) (answer : ℕ) : Type 0 where
   pub plain : RisingPlain lists answer
   -- Rule 4.1, 1: where the same bytes are stored as the lists of a shape, refusal 1's test of the lists decides alike.
   pub stored : (block : List ℕ) (shape : ℕ) → length lists ≡ 188 → ((k : ℕ) → k < 188 → get_or block (shape + 5 + k) 0 ≡ get_or lists k 0)
-      → eqb answer 0 ≡ listsRise block shape
+      → eqb answer 0 ≡ lists_rise block shape

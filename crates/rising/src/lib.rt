@@ -1,4 +1,6 @@
 // The rising test of 35h called alone: a library of its own, for measuring. The front end runs the same search on a packet.
+#![tactic(auto)]
+
 ghost use Rattle.std.specs.Prelude.{◌≡◌, ◌<◌};
 ghost use Rattle.rising.specs.Alone.{packed, RisingTold};
 

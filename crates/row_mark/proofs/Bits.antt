@@ -11,7 +11,7 @@ use lib.ListN.{length, get_or, set}
 use lib.Dec.{eqb}
 use lib.Bits.{bit_or, or_step, or_zero_r}
 use lib.Count.{ones, ones_step, count_trailing_zeros}
-use Rattle.row_mark.specs.Bits.{bits_of, of_bits, bit_at, count_true, firstTrue}
+use Rattle.row_mark.specs.Bits.{bits_of, of_bits, bit_at, count_true, first_true}
 
 pub length-bits : (k n : ℕ) → length (bits_of k n) ≡ k
 unfolding bits_of
@@ -105,8 +105,8 @@ count_ones (suc k) n h =
     go (yes e) = rw (eq-eqb _ _ e) (omega arith)
     go (no e) = rw (ne_eqb _ _ e) (omega arith)
 
-pub first-set : (k n : ℕ) → count_trailing_zeros k n ≡ firstTrue (bits_of k n)
-unfolding bits_of firstTrue count_trailing_zeros
+pub first-set : (k n : ℕ) → count_trailing_zeros k n ≡ first_true (bits_of k n)
+unfolding bits_of first_true count_trailing_zeros
 first-set zero n = refl
 first-set (suc k) n =
     elim (ℕ_discrete (n % 2) 1) [
@@ -121,8 +121,8 @@ count-few [] = omega arith
 count-few (true ∷ bs) = omega (arith, count-few bs)
 count-few (false ∷ bs) = omega (arith, count-few bs)
 
-pub first-few : (bs : List Bool) → firstTrue bs ≤ length bs
-unfolding firstTrue
+pub first-few : (bs : List Bool) → first_true bs ≤ length bs
+unfolding first_true
 first-few [] = omega arith
 first-few (true ∷ bs) = omega arith
 first-few (false ∷ bs) = omega (arith, first-few bs)

@@ -13,8 +13,8 @@ use borrow.Author.Tests.{eq-eqb, ne_eqb, eqb-true, lt-ltb, le-ltb}
 use lib.ListN.{length, take, drop, get_or, length-take, length-drop}
 use lib.Seq.{get_or-take, get_or-drop}
 use lib.Dec.{eqb, ltb}
-use Rattle.row_mark.specs.Bits.{bits_of, bit_at, count_true, firstTrue}
-use Rattle.row_mark.specs.Rows.{differ, rowMoved, rightMark}
+use Rattle.row_mark.specs.Bits.{bits_of, bit_at, count_true, first_true}
+use Rattle.row_mark.specs.Rows.{differ, row_moved, right_mark}
 use Rattle.row_mark.specs.Right.{Moved, RightFor, LowestMoved, MovedFrom, RowsCounted}
 use Rattle.row_mark.proofs.Bits.{bit-at, length-bits, first-few}
 use Rattle.row_mark.proofs.Rows.{row_of, each_at, row_room}
@@ -50,15 +50,15 @@ none_other (x ∷ xs) (y ∷ ys) f l i = go (λ g. none_other xs ys g (omega ari
 
 -- ---- The first bit of a list that is set.
 
-first_below : (bs : List Bool) (r : ℕ) → r < firstTrue bs → get_or bs r false ≡ false
-unfolding firstTrue
+first_below : (bs : List Bool) (r : ℕ) → r < first_true bs → get_or bs r false ≡ false
+unfolding first_true
 first_below [] r h = absurd (omega arith)
 first_below (true ∷ bs) r h = absurd (omega arith)
 first_below (false ∷ bs) zero h = refl
 first_below (false ∷ bs) (suc r) h = first_below bs r (omega arith)
 
-first-here : (bs : List Bool) → firstTrue bs < length bs → get_or bs (firstTrue bs) false ≡ true
-unfolding firstTrue
+first-here : (bs : List Bool) → first_true bs < length bs → get_or bs (first_true bs) false ≡ true
+unfolding first_true
 first-here [] h = absurd (omega arith)
 first-here (true ∷ bs) h = refl
 first-here (false ∷ bs) h = first-here bs (omega arith)
@@ -81,7 +81,7 @@ module _ (columns rows : ℕ) (staged live : List ℕ) (h : Holds columns rows s
   row-long : (r : ℕ) → r < rows → (m : List ℕ) → 2 * (columns * rows) ≤ length m → length (row_of columns r m) ≡ 2 * columns
   row-long r l m long = simp (length-take, length-drop) (omega (arith, row_room columns r rows l))
 
-  moves : (r : ℕ) → rowMoved columns rows staged live r ≡ true → Moved columns rows staged live r
+  moves : (r : ℕ) → row_moved columns rows staged live r ≡ true → Moved columns rows staged live r
   moves r t = elim (dec_lt r rows) [ no n ↦ absurd (true≢false (sym shown ∙ rw (le-ltb r rows (omega arith)))) | yes l ↦ found l ]
     where
       shown : (ltb r rows && differ (row_of columns r staged) (row_of columns r live)) ≡ true
@@ -108,7 +108,7 @@ module _ (columns rows : ℕ) (staged live : List ℕ) (h : Holds columns rows s
                 };
           }
 
-  moved : (r : ℕ) → Moved columns rows staged live r → rowMoved columns rows staged live r ≡ true
+  moved : (r : ℕ) → Moved columns rows staged live r → row_moved columns rows staged live r ≡ true
   moved r m = rw (lt-ltb r rows m.row) (go (differ (row_of columns r staged) (row_of columns r live)) refl)
     where
       alike : differ (row_of columns r staged) (row_of columns r live) ≡ false → (i : ℕ) → i < 2 * columns
@@ -130,25 +130,25 @@ module _ (columns rows : ℕ) (staged live : List ℕ) (h : Holds columns rows s
   -- ---- The mark.
 
   -- One bit of it.
-  pub row-right : (mark r : ℕ) → eqb (bit_at mark r) 1 ≡ rowMoved columns rows staged live r → (bit_at mark r ≡ 1) ↔ Moved columns rows staged live r
+  pub row-right : (mark r : ℕ) → eqb (bit_at mark r) 1 ≡ row_moved columns rows staged live r → (bit_at mark r ≡ 1) ↔ Moved columns rows staged live r
   row-right mark r e = (λ set. moves r (sym e ∙ eq-eqb (bit_at mark r) 1 set), λ m. eqb-true (bit_at mark r) 1 (e ∙ moved r m))
 
-  pub right-row : (mark r : ℕ) → (bit_at mark r ≡ 1) ↔ Moved columns rows staged live r → eqb (bit_at mark r) 1 ≡ rowMoved columns rows staged live r
-  right-row mark r right = go (rowMoved columns rows staged live r) refl
+  pub right-row : (mark r : ℕ) → (bit_at mark r ≡ 1) ↔ Moved columns rows staged live r → eqb (bit_at mark r) 1 ≡ row_moved columns rows staged live r
+  right-row mark r right = go (row_moved columns rows staged live r) refl
     where
-      go : (b : Bool) → rowMoved columns rows staged live r ≡ b → eqb (bit_at mark r) 1 ≡ rowMoved columns rows staged live r
+      go : (b : Bool) → row_moved columns rows staged live r ≡ b → eqb (bit_at mark r) 1 ≡ row_moved columns rows staged live r
       go true e = rw e (eq-eqb (bit_at mark r) 1 (right.1 (moves r e)))
       go false e = rw e (ne_eqb (bit_at mark r) 1 (λ set. true≢false (sym (moved r (right.0 set)) ∙ e)))
 
   -- All of it.
-  pub right-for : (mark : ℕ) → bits_of 32 mark ≡ rightMark columns rows staged live → RightFor columns rows staged live mark
+  pub right-for : (mark : ℕ) → bits_of 32 mark ≡ right_mark columns rows staged live → RightFor columns rows staged live mark
   right-for mark e =
       record {
         each =
             λ r l.
             let z : 0 + r ≡ r = omega arith in
             row-right mark r
-            (sym (bit-at 32 mark r l) ∙ ap (λ (bs : List Bool). get_or bs r false) e ∙ (rw z at (each_at (rowMoved columns rows staged live) 0 32 r l)));
+            (sym (bit-at 32 mark r l) ∙ ap (λ (bs : List Bool). get_or bs r false) e ∙ (rw z at (each_at (row_moved columns rows staged live) 0 32 r l)));
       }
 
 -- ---- How many rows, and the lowest, of a right mark.
@@ -161,13 +161,13 @@ module _ (columns rows : ℕ) (staged live : List ℕ) (mark : ℕ) (right : Rig
     λ m. bit-at 32 mark r l ∙ eq-eqb (bit_at mark r) 1 ((right.each r l).1 m),
   )
 
-  lowest-moved : LowestMoved columns rows staged live (firstTrue (bits_of 32 mark))
+  lowest-moved : LowestMoved columns rows staged live (first_true (bits_of 32 mark))
   lowest-moved =
-      let few : firstTrue (bits_of 32 mark) ≤ 32 = omega (arith, first-few (bits_of 32 mark), length-bits 32 mark) in
+      let few : first_true (bits_of 32 mark) ≤ 32 = omega (arith, first-few (bits_of 32 mark), length-bits 32 mark) in
       record {
         bound = few;
         none_below = λ r l m. true≢false (sym ((bit-means r (omega arith)).1 m) ∙ first_below (bits_of 32 mark) r l);
-        here = λ l. (bit-means (firstTrue (bits_of 32 mark)) l).0 (first-here (bits_of 32 mark) (rw length-bits l));
+        here = λ l. (bit-means (first_true (bits_of 32 mark)) l).0 (first-here (bits_of 32 mark) (rw length-bits l));
       }
 
   counted : (bs : List Bool) (r : ℕ) → ((k : ℕ) → k < length bs → (get_or bs k false ≡ true) ↔ Moved columns rows staged live (r + k))
@@ -186,7 +186,7 @@ module _ (columns rows : ℕ) (staged live : List ℕ) (mark : ℕ) (right : Rig
       go true first rest = rw one-add (MovedFrom.moved (first.0 refl) rest)
       go false first rest = rw zero-add (MovedFrom.still (λ m. true≢false (sym (first.1 m))) rest)
 
-  pub rows-counted : RowsCounted columns rows staged live (count_true (bits_of 32 mark)) (firstTrue (bits_of 32 mark))
+  pub rows-counted : RowsCounted columns rows staged live (count_true (bits_of 32 mark)) (first_true (bits_of 32 mark))
   rows-counted =
       let long = length-bits 32 mark in
       record {

@@ -9,7 +9,7 @@ use native.Mathlib.Numerals.{add-one}
 use native.Mathlib.Omega.{arith}
 use lib.ListN.{length, take, drop, get_or, set, length-set}
 use lib.Seq.{get_or-set_same, get_or-set_other, ext_get_or}
-use Rattle.row_mark.specs.Rows.{eachFrom, refreshed}
+use Rattle.row_mark.specs.Rows.{each_from, refreshed}
 
 -- The numbers of a row.
 abbrev pub row_of : ℕ → ℕ → List ℕ → List ℕ
@@ -53,21 +53,21 @@ refreshed-same f g r (suc n) mark same =
 
 -- ---- Each of the rows.
 
-pub length-each : (f : ℕ → Bool) (r n : ℕ) → length (eachFrom f r n) ≡ n
-unfolding eachFrom
+pub length-each : (f : ℕ → Bool) (r n : ℕ) → length (each_from f r n) ≡ n
+unfolding each_from
 length-each f r zero = refl
 length-each f r (suc n) = ap suc (length-each f (suc r) n)
 
-pub each_at : (f : ℕ → Bool) (r n k : ℕ) → k < n → get_or (eachFrom f r n) k false ≡ f (r + k)
-unfolding eachFrom
+pub each_at : (f : ℕ → Bool) (r n k : ℕ) → k < n → get_or (each_from f r n) k false ≡ f (r + k)
+unfolding each_from
 each_at f r zero k h = absurd (omega arith)
 each_at f r (suc n) zero h = let e : r + 0 ≡ r = omega arith in rw e
 each_at f r (suc n) (suc k) h = let e : r + suc k ≡ suc r + k = omega arith in rw e (each_at f (suc r) n k (omega arith))
 
 -- A mark of which each bit is the test's is that of all rows.
-pub each_right : (f : ℕ → Bool) (n : ℕ) (mark : List Bool) → length mark ≡ n → ((k : ℕ) → k < n → get_or mark k false ≡ f k) → mark ≡ eachFrom f 0 n
+pub each_right : (f : ℕ → Bool) (n : ℕ) (mark : List Bool) → length mark ≡ n → ((k : ℕ) → k < n → get_or mark k false ≡ f k) → mark ≡ each_from f 0 n
 each_right f n mark long right =
-    ext_get_or false mark (eachFrom f 0 n) (rw length-each long)
+    ext_get_or false mark (each_from f 0 n) (rw length-each long)
     (λ k h.
     let e : 0 + k ≡ k = omega arith in
     right k (omega arith) ∙ sym (rw e at (each_at f 0 n k (omega arith))))

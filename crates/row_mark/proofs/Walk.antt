@@ -10,7 +10,7 @@ use lib.ListN.{length, take, drop, get_or, length-take, length-drop}
 use lib.Seq.{drop-cons, take-add, drop-drop}
 use lib.Dec.{eqb}
 use Rattle.wire.proofs.Tests.{told}
-use Rattle.row_mark.specs.Rows.{differ, pointsDiffer}
+use Rattle.row_mark.specs.Rows.{differ, points_differ}
 
 -- What is left of two rows: so many numbers from a place on.
 abbrev rest : List ℕ → ℕ → ℕ → List ℕ
@@ -96,23 +96,23 @@ module _ (a b : List ℕ) (start columns : ℕ) (la : 2 * (start + columns) ≤ 
 
   -- Not all of them are alike.
   pub many-differ : (t i : ℕ) → i + t ≤ columns → Alike a b start columns i → (((k : ℕ) → k < t → PointSame a b (start + (i + k))) → ⊥)
-      → pointsDiffer start columns a b ≡ true
+      → points_differ start columns a b ≡ true
   many-differ zero i h w other = absurd (other (λ k l. absurd (omega arith)))
   many-differ (suc t) i h w other =
       go (λ on rest. many-differ t (i + 1) (omega arith) on rest) (ℕ_discrete (get_or a (2 * (start + i)) 0) (get_or b (2 * (start + i)) 0))
       (ℕ_discrete (get_or a (2 * (start + i) + 1) 0) (get_or b (2 * (start + i) + 1) 0))
     where
       here : (get_or a (2 * (start + i)) 0 ≡ get_or b (2 * (start + i)) 0 → get_or a (2 * (start + i) + 1) 0 ≡ get_or b (2 * (start + i) + 1) 0 → ⊥)
-          → pointsDiffer start columns a b ≡ true
+          → points_differ start columns a b ≡ true
       here = alike-differs a b start columns i (omega arith) la lb w
 
       all : PointSame a b (start + i) → ((k : ℕ) → k < t → PointSame a b (start + (i + 1 + k))) → (k : ℕ) → k < suc t → PointSame a b (start + (i + k))
       all first rest zero l = let z : start + i ≡ start + (i + 0) = omega arith in subst (PointSame a b) z first
       all first rest (suc k) l = let f : start + (i + 1 + k) ≡ start + (i + suc k) = omega arith in subst (PointSame a b) f (rest k (omega arith))
 
-      go : (Alike a b start columns (i + 1) → (((k : ℕ) → k < t → PointSame a b (start + (i + 1 + k))) → ⊥) → pointsDiffer start columns a b ≡ true)
+      go : (Alike a b start columns (i + 1) → (((k : ℕ) → k < t → PointSame a b (start + (i + 1 + k))) → ⊥) → points_differ start columns a b ≡ true)
           → Dec (get_or a (2 * (start + i)) 0 ≡ get_or b (2 * (start + i)) 0) → Dec (get_or a (2 * (start + i) + 1) 0 ≡ get_or b (2 * (start + i) + 1) 0)
-          → pointsDiffer start columns a b ≡ true
+          → points_differ start columns a b ≡ true
       go rest (no x) y = here (λ e f. x e)
       go rest (yes x) (no y) = here (λ e f. y f)
       go rest (yes x) (yes y) = rest (alike-on a b start columns i (omega arith) la lb w x y) (λ same. other (all (x, y) same))
@@ -127,7 +127,7 @@ differ-append (x ∷ a) b [] d e = absurd (omega arith)
 differ-append (x ∷ a) b (y ∷ c) d e = rw (differ-append a b c d (omega arith)) (sym (or_assoc (not (eqb x y)) (differ a c) (differ b d)))
 
 pub two-parts : (a b : List ℕ) (start m n : ℕ) → 2 * (start + m) ≤ length a → 2 * (start + m) ≤ length b
-    → pointsDiffer start (m + n) a b ≡ (pointsDiffer start m a b || pointsDiffer (start + m) n a b)
+    → points_differ start (m + n) a b ≡ (points_differ start m a b || points_differ (start + m) n a b)
 two-parts a b start m n la lb =
     let e : 2 * (m + n) ≡ 2 * m + 2 * n = omega arith in
     let f : 2 * (start + m) ≡ 2 * start + 2 * m = omega arith in

@@ -20,6 +20,6 @@ unfoldable pub count_true : List Bool → ℕ
 count_true [] = 0
 count_true (b ∷ bs) = cond b 1 0 + count_true bs
 
-unfoldable pub firstTrue : List Bool → ℕ
-firstTrue [] = 0
-firstTrue (b ∷ bs) = cond b 0 (suc (firstTrue bs))
+unfoldable pub first_true : List Bool → ℕ
+first_true [] = 0
+first_true (b ∷ bs) = cond b 0 (suc (first_true bs))

@@ -2,8 +2,8 @@
 use Rattle.std.specs.Prelude.{ℕ, zero, suc, ◌*◌, Bool, false, not, ◌&&◌, ◌||◌, List, [], ◌∷◌, take, drop, set, eqb, ltb}
 
 -- Rule 11.1: a mark has a bit for so many rows, as many as the largest shape has.
-abbrev pub markRows : ℕ
-markRows = 32
+abbrev pub mark_rows : ℕ
+mark_rows = 32
 
 -- Some number differs from that of the same index.
 unfoldable pub differ : List ℕ → List ℕ → Bool
@@ -12,25 +12,25 @@ differ (x ∷ xs) [] = false
 differ (x ∷ xs) (y ∷ ys) = not (eqb x y) || differ xs ys
 
 -- One of n points, from one on, differs; each has two numbers.
-abbrev pub pointsDiffer : ℕ → ℕ → List ℕ → List ℕ → Bool
-pointsDiffer start n staged live = differ (take (2 * n) (drop (2 * start) staged)) (take (2 * n) (drop (2 * start) live))
+abbrev pub points_differ : ℕ → ℕ → List ℕ → List ℕ → Bool
+points_differ start n staged live = differ (take (2 * n) (drop (2 * start) staged)) (take (2 * n) (drop (2 * start) live))
 
 -- Rule 11.1: a row of a map of so many columns has a point that differs.
-abbrev pub rowDiffers : ℕ → List ℕ → List ℕ → ℕ → Bool
-rowDiffers columns staged live r = pointsDiffer (columns * r) columns staged live
+abbrev pub row_differs : ℕ → List ℕ → List ℕ → ℕ → Bool
+row_differs columns staged live r = points_differ (columns * r) columns staged live
 
 -- Rule 11.1: and it is a row of the shape. Rows past the last have not moved.
-abbrev pub rowMoved : ℕ → ℕ → List ℕ → List ℕ → ℕ → Bool
-rowMoved columns rows staged live r = ltb r rows && rowDiffers columns staged live r
+abbrev pub row_moved : ℕ → ℕ → List ℕ → List ℕ → ℕ → Bool
+row_moved columns rows staged live r = ltb r rows && row_differs columns staged live r
 
 -- A test of so many indices, from one on.
-unfoldable pub eachFrom : (ℕ → Bool) → ℕ → ℕ → List Bool
-eachFrom f r zero = []
-eachFrom f r (suc n) = f r ∷ eachFrom f (suc r) n
+unfoldable pub each_from : (ℕ → Bool) → ℕ → ℕ → List Bool
+each_from f r zero = []
+each_from f r (suc n) = f r ∷ each_from f (suc r) n
 
 -- Rule 11.1: the right mark.
-abbrev pub rightMark : ℕ → ℕ → List ℕ → List ℕ → List Bool
-rightMark columns rows staged live = eachFrom (rowMoved columns rows staged live) 0 markRows
+abbrev pub right_mark : ℕ → ℕ → List ℕ → List ℕ → List Bool
+right_mark columns rows staged live = each_from (row_moved columns rows staged live) 0 mark_rows
 
 -- Rule 11.2: a mark with the bits of n rows, from r on, worked out afresh; the others are as they were.
 unfoldable pub refreshed : (ℕ → Bool) → ℕ → ℕ → List Bool → List Bool

@@ -1,9 +1,9 @@
 // Maps as the bytes of 16-bit numbers, low byte first: four bytes a point.
 ghost use Rattle.std.specs.Prelude.{◌≡◌, ◌+◌, ◌-◌, ◌*◌, ◌<◌, ◌≤◌, length};
-ghost use Rattle.wire.specs.Numbers.{longAt};
+ghost use Rattle.wire.specs.Numbers.{long_at};
 ghost use Rattle.wire.specs.Tables.{words};
 ghost use Rattle.row_mark.specs.Bits.{bits_of};
-ghost use Rattle.row_mark.specs.Rows.{markRows, refreshed, rowDiffers, pointsDiffer};
+ghost use Rattle.row_mark.specs.Rows.{mark_rows, refreshed, «row_differs», «points_differ»};
 
 // The mark with the bits of the rows from the first up to the end worked out afresh.
 pub fn refresh(
@@ -14,8 +14,8 @@ pub fn refresh(
     staged: &[u8],
     live: &[u8],
 ) -> u32
-    requires { (end ≤ markRows) × (4 * (columns * end) ≤ length staged.now) × (4 * (columns * end) ≤ length live.now) }
-    ensures { bits_of 32 result ≡ refreshed (rowDiffers columns (words staged.now) (words live.now)) first
+    requires { (end ≤ mark_rows) × (4 * (columns * end) ≤ length staged.now) × (4 * (columns * end) ≤ length live.now) }
+    ensures { bits_of 32 result ≡ refreshed («row_differs» columns (words staged.now) (words live.now)) first
         (end - first) (bits_of 32 mark) }
 {
     let mut fresh = mark;
@@ -31,7 +31,7 @@ pub fn refresh(
 // the first difference lies.
 fn row_differs(row: usize, columns: usize, staged: &[u8], live: &[u8]) -> bool
     requires { (4 * (columns * row + columns) ≤ length staged.now) × (4 * (columns * row + columns) ≤ length live.now) }
-    ensures { result ≡ rowDiffers columns (words staged.now) (words live.now) row }
+    ensures { result ≡ «row_differs» columns (words staged.now) (words live.now) row }
 {
     let start = columns * row;
     let fours = columns / 4;
@@ -44,7 +44,7 @@ fn row_differs(row: usize, columns: usize, staged: &[u8], live: &[u8]) -> bool
 // Whether one of n times four points, from one on, differs. The two tests are joined, as one branch for both is faster than two.
 fn fours_differ(start: usize, n: usize, staged: &[u8], live: &[u8]) -> bool
     requires { (4 * (start + 4 * n) ≤ length staged.now) × (4 * (start + 4 * n) ≤ length live.now) }
-    ensures { result ≡ pointsDiffer start (4 * n) (words staged.now) (words live.now) }
+    ensures { result ≡ «points_differ» start (4 * n) (words staged.now) (words live.now) }
 {
     let mut i = 0;
     while i < n {
@@ -62,7 +62,7 @@ fn fours_differ(start: usize, n: usize, staged: &[u8], live: &[u8]) -> bool
 // Whether one of n points, from one on, differs.
 fn points_differ(start: usize, n: usize, staged: &[u8], live: &[u8]) -> bool
     requires { (4 * (start + n) ≤ length staged.now) × (4 * (start + n) ≤ length live.now) }
-    ensures { result ≡ pointsDiffer start n (words staged.now) (words live.now) }
+    ensures { result ≡ «points_differ» start n (words staged.now) (words live.now) }
 {
     let mut i = 0;
     while i < n {
@@ -78,7 +78,7 @@ fn points_differ(start: usize, n: usize, staged: &[u8], live: &[u8]) -> bool
 // Two points as one number of 64 bits.
 fn two_points(map: &[u8], at: usize) -> u64
     requires { at + 7 < length map.now }
-    ensures { result ≡ longAt map.now at + 4294967296 * longAt map.now (at + 4) }
+    ensures { result ≡ long_at map.now at + 4294967296 * long_at map.now (at + 4) }
 {
     point(map, at) as u64 + 4294967296 * (point(map, at + 4) as u64)
 }
@@ -86,7 +86,7 @@ fn two_points(map: &[u8], at: usize) -> u64
 // Both numbers of the point at a place, as one of 32 bits.
 fn point(map: &[u8], at: usize) -> u32
     requires { at + 3 < length map.now }
-    ensures { result ≡ longAt map.now at }
+    ensures { result ≡ long_at map.now at }
 {
     let x = wire::number(map[at], map[at + 1]);
     let y = wire::number(map[at + 2], map[at + 3]);

@@ -1,15 +1,17 @@
 // Which rows of the staged map differ from the live one, and the mark that says so: bit r of 32 for row r. Two families of the same names: maps as
 // 16-bit numbers, and maps as their bytes.
+#![tactic(auto)]
+
 pub mod bytes;
 pub mod numbers;
 
 ghost use Rattle.std.specs.Prelude.{◌≡◌, ◌<◌, set};
-ghost use Rattle.row_mark.specs.Bits.{bits_of, count_true, firstTrue};
-ghost use Rattle.row_mark.specs.Rows.{markRows};
+ghost use Rattle.row_mark.specs.Bits.{bits_of, count_true, first_true};
+ghost use Rattle.row_mark.specs.Rows.{mark_rows};
 
 // The mark with the bit of a row set, or clear.
 fn put_bit(mark: u32, row: usize, moved: bool) -> u32
-    requires { row < markRows }
+    requires { row < mark_rows }
     ensures { bits_of 32 result ≡ set (bits_of 32 mark) row moved }
 {
     let bit = 1u32 << row;
@@ -29,7 +31,7 @@ pub fn count(mark: u32) -> u32
 
 // The lowest marked row, 32 for none.
 pub fn lowest(mark: u32) -> u32
-    ensures { result ≡ firstTrue (bits_of 32 mark) }
+    ensures { result ≡ first_true (bits_of 32 mark) }
 {
     u32::trailing_zeros(mark)
 }

@@ -1,7 +1,7 @@
 // Maps as 16-bit numbers.
 ghost use Rattle.std.specs.Prelude.{◌≡◌, ◌+◌, ◌-◌, ◌*◌, ◌≤◌, length};
 ghost use Rattle.row_mark.specs.Bits.{bits_of};
-ghost use Rattle.row_mark.specs.Rows.{markRows, refreshed, rowDiffers};
+ghost use Rattle.row_mark.specs.Rows.{mark_rows, refreshed, «row_differs»};
 
 // The mark with the bits of the rows from the first up to the end worked out afresh.
 pub fn refresh(
@@ -12,8 +12,8 @@ pub fn refresh(
     staged: &[u16],
     live: &[u16],
 ) -> u32
-    requires { (end ≤ markRows) × (2 * (columns * end) ≤ length staged.now) × (2 * (columns * end) ≤ length live.now) }
-    ensures { bits_of 32 result ≡ refreshed (rowDiffers columns staged.now live.now) first
+    requires { (end ≤ mark_rows) × (2 * (columns * end) ≤ length staged.now) × (2 * (columns * end) ≤ length live.now) }
+    ensures { bits_of 32 result ≡ refreshed («row_differs» columns staged.now live.now) first
         (end - first) (bits_of 32 mark) }
 {
     let mut fresh = mark;
@@ -28,7 +28,7 @@ pub fn refresh(
 // Whether a row has a point that differs: it is known at the first. x and y are tested together, as one branch is faster than two.
 fn row_differs(row: usize, columns: usize, staged: &[u16], live: &[u16]) -> bool
     requires { (2 * (columns * row + columns) ≤ length staged.now) × (2 * (columns * row + columns) ≤ length live.now) }
-    ensures { result ≡ rowDiffers columns staged.now live.now row }
+    ensures { result ≡ «row_differs» columns staged.now live.now row }
 {
     let start = columns * row;
     let mut i = 0;

@@ -12,7 +12,7 @@ use lib.Seq.{append_snoc, drop-cons}
 use lib.Dec.{eqb, leb}
 use Rattle.wire.specs.Numbers.{word_at}
 use Rattle.wire.proofs.Tests.{and_left, and_right}
-use Rattle.session_file.specs.Session.{Run, run, preamble, start, is_whole, recorded, matchedBy, grown, taken, fileRun, takenAll}
+use Rattle.session_file.specs.Session.{Run, run, preamble, start, is_whole, recorded, matched_by, grown, taken, file_run, taken_all}
 use Rattle.session_file.specs.Session.{FileRead}
 use Rattle.session_file.specs.Plain.{Cut, Splits, ends, next}
 use Rattle.session_file.proofs.Runs.{taken-append, recorded-cut, recorded-whole, reaches, grown-preamble, taken-spoiled}
@@ -21,14 +21,14 @@ use Rattle.session_file.proofs.Kept.{word-append}
 -- ---- Windows.
 
 -- Rule 9.6, from any run on, so that it goes by induction.
-windows : (r : Run) (ws : List (List ℕ)) → takenAll r ws ≡ taken r (flatten ws)
+windows : (r : Run) (ws : List (List ℕ)) → taken_all r ws ≡ taken r (flatten ws)
 unfolding taken flatten
 windows r [] = refl
 windows r (w ∷ ws) = windows (taken r w) ws ∙ sym (taken-append r w (flatten ws))
 
 -- Rule 9.6: windows of any lengths give the run of the whole file.
-pub file-split : (ws : List (List ℕ)) → takenAll start ws ≡ fileRun (flatten ws)
-unfolding fileRun
+pub file-split : (ws : List (List ℕ)) → taken_all start ws ≡ file_run (flatten ws)
+unfolding file_run
 file-split ws = windows start ws
 
 -- ---- The preamble.
@@ -44,11 +44,11 @@ at-end m bytes e = rw e
 
 -- A wrong byte spoils the file for good, and one that ends too early never comes to five.
 preamble-or-none : (m : ℕ) (bytes : List ℕ) → m < 5 → Begins m bytes
-unfolding taken matchedBy
+unfolding taken matched_by
 preamble-or-none m [] lt = other (λ e. omega arith) refl
 preamble-or-none m (b ∷ bytes) lt = go (preamble-or-none (suc m) bytes) (eqb b (get_or preamble m 0)) refl
   where
-    after : (m' : ℕ) → matchedBy m b ≡ m' → taken (run m [] []) (b ∷ bytes) ≡ taken (run m' [] []) bytes
+    after : (m' : ℕ) → matched_by m b ≡ m' → taken (run m [] []) (b ∷ bytes) ≡ taken (run m' [] []) bytes
     after m' e = ap (λ (r : Run). taken r bytes) (grown-preamble m [] [] b lt ∙ ap (λ (k : ℕ). run k [] []) e)
 
     then : b ≡ get_or preamble m 0 → taken (run m [] []) (b ∷ bytes) ≡ taken (run (suc m) [] []) bytes → Begins (suc m) bytes → Begins m (b ∷ bytes)
@@ -69,8 +69,8 @@ preamble-or-none m (b ∷ bytes) lt = go (preamble-or-none (suc m) bytes) (eqb b
         ])
 
 -- Rule 9.1: with the preamble, the records begin behind it.
-behind : (file : List ℕ) → take 5 file ≡ preamble → fileRun file ≡ taken (run 5 [] []) (drop 5 file)
-unfolding fileRun taken grown matchedBy
+behind : (file : List ℕ) → take 5 file ≡ preamble → file_run file ≡ taken (run 5 [] []) (drop 5 file)
+unfolding file_run taken grown matched_by
 behind file e = ap (taken start) (sym (take-append-drop 5 file) ∙ ap (λ (l : List ℕ). l ++ drop 5 file) e)
 
 -- ---- Records.
@@ -165,21 +165,21 @@ follows ps (next {low} {high} {packet} {rest} {packets} {h} e s) =
 
 -- Rules 9.1, 9.3 and 9.4: with the preamble, and without it.
 module _ (file : List ℕ) where
-  with-preamble : take 5 file ≡ preamble → Reads [] [] (drop 5 file) (fileRun file)
+  with-preamble : take 5 file ≡ preamble → Reads [] [] (drop 5 file) (file_run file)
   with-preamble e =
       subst (λ (r : Run). Reads [] [] (drop 5 file) r) (sym (behind file e))
       (splits-on [] [] (drop 5 file) (record { short = λ two. absurd (omega arith) }))
 
-  only : take 5 file ≡ preamble → {packets : List (List ℕ)} {h : List ℕ} → Splits (drop 5 file) packets h → fileRun file ≡ run 5 packets h
+  only : take 5 file ≡ preamble → {packets : List (List ℕ)} {h : List ℕ} → Splits (drop 5 file) packets h → file_run file ≡ run 5 packets h
   only e s = behind file e ∙ follows [] s
 
-  matched-right : Begins 0 file → (fileRun file).matched ≡ 5 → take 5 file ≡ preamble
-  unfolding fileRun
+  matched-right : Begins 0 file → (file_run file).matched ≡ 5 → take 5 file ≡ preamble
+  unfolding file_run
   matched-right (right e) f = e
   matched-right (other not none) f = absurd (not f)
 
-  no_record : Begins 0 file → (take 5 file ≡ preamble → ⊥) → (fileRun file).whole ≡ []
-  unfolding fileRun
+  no_record : Begins 0 file → (take 5 file ≡ preamble → ⊥) → (file_run file).whole ≡ []
+  unfolding file_run
   no_record (right e) wrong = absurd (wrong e)
   no_record (other not none) wrong = none
 
@@ -192,7 +192,7 @@ file-read file =
       splits =
           λ e.
           let r = with-preamble file e in
-          subst (λ (qs : List (List ℕ)). Splits (drop 5 file) qs (fileRun file).under) (sym r.adds) r.split;
+          subst (λ (qs : List (List ℕ)). Splits (drop 5 file) qs (file_run file).under) (sym r.adds) r.split;
       only =
           λ e packets h s.
           let r = only file e s in

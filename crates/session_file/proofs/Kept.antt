@@ -14,7 +14,7 @@ use Rattle.wire.specs.Numbers.{byte_at, word_at}
 use Rattle.session_file.specs.Session.{Run, run, recorded, taken}
 use Rattle.session_file.specs.Plain.{Cut}
 use Rattle.session_file.specs.Windows.{ReaderStands, part, Went}
-use Rattle.session_file.specs.Windows.{nothing, lacking, taking, keptAfter, afterTaking}
+use Rattle.session_file.specs.Windows.{nothing, lacking, taking, kept_after, after_taking}
 use Rattle.session_file.proofs.Runs.{reaches, recorded-cut, recorded-whole, full}
 
 -- ---- Fronts of lists.
@@ -56,8 +56,8 @@ word-append h p two =
 -- ---- Keeping.
 
 pub length-kept : (kept : List ℕ) (have : ℕ) (bytes : List ℕ) (n : ℕ) → 515 ≤ length kept → n ≤ length bytes
-    → length (keptAfter kept have bytes n) ≡ length kept
-unfolding keptAfter
+    → length (kept_after kept have bytes n) ≡ length kept
+unfolding kept_after
 length-kept kept have bytes n room long = go (ltb have 515) refl
   where
     go : (b : Bool) → ltb have 515 ≡ b → length (cond b (paste kept have bytes (min n (515 - have))) kept) ≡ length kept
@@ -66,8 +66,8 @@ length-kept kept have bytes n room long = go (ltb have 515) refl
 
 -- Rule 9.5: the first 515 bytes of the record stand in the room, as many of them as there are.
 pub keeps : (h kept bytes : List ℕ) (n : ℕ) → 515 ≤ length kept → n ≤ length bytes → take (min (length h) 515) kept ≡ take 515 h
-    → take (min (length h + n) 515) (keptAfter kept (length h) bytes n) ≡ take 515 (h ++ take n bytes)
-unfolding keptAfter
+    → take (min (length h + n) 515) (kept_after kept (length h) bytes n) ≡ take 515 (h ++ take n bytes)
+unfolding kept_after
 keeps h kept bytes n room long front = go (ltb (length h) 515) refl
   where
     go : (b : Bool) → ltb (length h) 515 ≡ b
@@ -106,7 +106,7 @@ module _ (window : List ℕ) (at : ℕ) (ps : List (List ℕ)) (h kept : List �
   l = h ++ bytes
 
   abbrev pub after : List ℕ
-  after = keptAfter kept (length h) (drop at window) n
+  after = kept_after kept (length h) (drop at window) n
 
   rest : length (drop at window) ≡ length window - at
   rest = length-drop at window
@@ -178,8 +178,8 @@ module _ (window : List ℕ) (at : ℕ) (ps : List (List ℕ)) (h kept : List �
         there = λ q. sym (behind-two (min (length h + n) 515) after (omega (arith, long))) ∙ ap (drop 2) front-after ∙ behind-two 515 l (omega arith);
       }
 
-  pub went-more : Went (run 5 ps h) window at (afterTaking (at + n) (length h + n) after) after
-  unfolding afterTaking
+  pub went-more : Went (run 5 ps h) window at (after_taking (at + n) (length h + n) after) after
+  unfolding after_taking
   went-more = go (ltb (length h + n) 2) (ltb (length h + n) (2 + word_at after 0)) refl refl
     where
       go : (a b : Bool) → ltb (length h + n) 2 ≡ a → ltb (length h + n) (2 + word_at after 0) ≡ b

@@ -10,7 +10,7 @@ use lib.ListN.{length, take, drop, length-append}
 use lib.Seq.{append_snoc, length-take-le, get_or-take, take-append-add}
 use lib.Dec.{eqb, leb}
 use Rattle.wire.specs.Numbers.{word_at}
-use Rattle.session_file.specs.Session.{Run, run, is_whole, recorded, matchedBy, grown, taken}
+use Rattle.session_file.specs.Session.{Run, run, is_whole, recorded, matched_by, grown, taken}
 use Rattle.session_file.specs.Plain.{Cut}
 
 -- Rule 9.6: bytes behind others, taken as they come.
@@ -86,7 +86,7 @@ full h fits two over =
 
 -- ---- The preamble.
 
-pub grown-preamble : (m : ℕ) (ps : List (List ℕ)) (h : List ℕ) (b : ℕ) → m < 5 → grown (run m ps h) b ≡ run (matchedBy m b) ps h
+pub grown-preamble : (m : ℕ) (ps : List (List ℕ)) (h : List ℕ) (b : ℕ) → m < 5 → grown (run m ps h) b ≡ run (matched_by m b) ps h
 unfolding grown
 grown-preamble m ps h b lt = rw (ne_eqb m 5 (λ q. omega arith), lt-ltb m 5 lt)
 

@@ -11,15 +11,15 @@ use lib.Dec.{ltb, eqb}
 use Rattle.wire.specs.Numbers.{word_at}
 use Rattle.wire.proofs.Tests.{and_left, and_right}
 use Rattle.session_file.specs.declared.Taken.{Taken}
-use Rattle.session_file.specs.Session.{Run, run, matchedBy, taken}
-use Rattle.session_file.specs.Windows.{mostRecord, ReaderStands, Within, part, Went, Follows, ReaderStep}
-use Rattle.session_file.specs.Windows.{nothing, wholeRecord, taking, keptAfter, afterTaking, liesWhole, nextKept, nextTaken}
+use Rattle.session_file.specs.Session.{Run, run, matched_by, taken}
+use Rattle.session_file.specs.Windows.{most_record, ReaderStands, Within, part, Went, Follows, ReaderStep}
+use Rattle.session_file.specs.Windows.{nothing, whole_record, taking, kept_after, after_taking, lies_whole, next_kept, next_taken}
 use Rattle.session_file.proofs.Runs.{reaches, recorded-whole, grown-preamble, taken-spoiled}
 use Rattle.session_file.proofs.Kept.{take-least, behind-two, part-is, length-kept, went-more}
 
 -- ---- Places.
 
-pub within_none : (window : List ℕ) (at end matched have : ℕ) (kept : List ℕ) → at < end → end ≤ length window → have ≤ mostRecord
+pub within_none : (window : List ℕ) (at end matched have : ℕ) (kept : List ℕ) → at < end → end ≤ length window → have ≤ most_record
     → Within window at (nothing end matched have) kept
 within_none window at end matched have kept lt le most =
     record {
@@ -32,7 +32,7 @@ within_none window at end matched have kept lt le most =
     }
 
 pub within-whole : (window : List ℕ) (at size : ℕ) (kept : List ℕ) → at + 2 + size ≤ length window
-    → Within window at (wholeRecord at size) kept
+    → Within window at (whole_record at size) kept
 within-whole window at size kept le =
     record {
       some = omega arith;
@@ -44,12 +44,12 @@ within-whole window at size kept le =
     }
 
 pub within_more : (window : List ℕ) (at end have : ℕ) (kept : List ℕ) → at < end → end ≤ length window → 515 ≤ length kept
-    → (afterTaking end have kept).have ≤ mostRecord → Within window at (afterTaking end have kept) kept
-unfolding afterTaking
+    → (after_taking end have kept).have ≤ most_record → Within window at (after_taking end have kept) kept
+unfolding after_taking
 within_more window at end have kept lt le room most = go (ltb have 2) (ltb have (2 + word_at kept 0)) refl refl most
   where
     go : (a b : Bool) → ltb have 2 ≡ a → ltb have (2 + word_at kept 0) ≡ b
-        → (cond (a || b) (nothing end 5 have) (record { at = end; matched = 5; have = 0; place = 2; start = 2; end = min have 515 })).have ≤ mostRecord
+        → (cond (a || b) (nothing end 5 have) (record { at = end; matched = 5; have = 0; place = 2; start = 2; end = min have 515 })).have ≤ most_record
         → Within window at
         (cond (a || b) (nothing end 5 have) (record { at = end; matched = 5; have = 0; place = 2; start = 2; end = min have 515 })) kept
     go true b e f m = within_none window at end 5 have kept lt le m
@@ -83,18 +83,18 @@ none-whole r r' window at end matched have kept e w st =
     }
 
 pub preamble-follows : (window : List ℕ) (at matched have : ℕ) (kept : List ℕ) → at < length window → matched < 5
-    → Follows window at matched have kept (nothing (at + 1) (matchedBy matched (get_or window at 0)) have) kept
+    → Follows window at matched have kept (nothing (at + 1) (matched_by matched (get_or window at 0)) have) kept
 unfolding taken
 preamble-follows window at matched have kept inside few =
     λ r st.
     let b : ℕ = get_or window at 0 in
     let one : part window at (at + 1) ≡ b ∷ [] = part-is window at 1 ∙ ap (take 1) (drop-cons window at 0 inside) in
     let lt : r.matched < 5 = omega (arith, st.preamble-bytes) in
-    let e : taken r (part window at (at + 1)) ≡ run (matchedBy r.matched b) r.whole r.under =
+    let e : taken r (part window at (at + 1)) ≡ run (matched_by r.matched b) r.whole r.under =
     ap (taken r) one ∙ grown-preamble r.matched r.whole r.under b lt in
-    none-whole r (run (matchedBy r.matched b) r.whole r.under) window at (at + 1) (matchedBy matched b) have kept e refl
+    none-whole r (run (matched_by r.matched b) r.whole r.under) window at (at + 1) (matched_by matched b) have kept e refl
     (record {
-      preamble-bytes = ap (λ (m : ℕ). matchedBy m b) st.preamble-bytes;
+      preamble-bytes = ap (λ (m : ℕ). matched_by m b) st.preamble-bytes;
       record-bytes = st.record-bytes;
       record-front = st.record-front;
       record-cut = st.record-cut;
@@ -141,7 +141,7 @@ module _ (window : List ℕ) (at : ℕ) (kept : List ℕ) (lies : at + 2 + word_
       ∙ ap (take size) (drop-drop 2 at window) in
       ap (λ (k : ℕ). take k (drop (at + 2) window)) e ∙ sym (take-least 513 size (drop (at + 2) window)) ∙ ap (take 513) (sym behind)
 
-  whole-went : Went (run 5 ps []) window at (wholeRecord at size) kept
+  whole-went : Went (run 5 ps []) window at (whole_record at size) kept
   whole-went =
       record {
         stands = subst (λ (r : Run). ReaderStands r 5 0 kept) (sym whole_run)
@@ -157,17 +157,17 @@ empty [] e = refl
 empty (x ∷ l) e = absurd (omega arith)
 
 pub whole-follows : (window : List ℕ) (at : ℕ) (kept : List ℕ) → at + 2 + word_at window at ≤ length window
-    → Follows window at 5 0 kept (wholeRecord at (word_at window at)) kept
+    → Follows window at 5 0 kept (whole_record at (word_at window at)) kept
 whole-follows window at kept lies =
     λ r st.
     let e : r ≡ run 5 r.whole [] = stands-for r 5 0 kept st ∙ ap (run 5 r.whole) (empty r.under st.record-bytes) in
-    subst (λ (x : Run). Went x window at (wholeRecord at (word_at window at)) kept) (sym e) (whole-went window at kept lies r.whole)
+    subst (λ (x : Run). Went x window at (whole_record at (word_at window at)) kept) (sym e) (whole-went window at kept lies r.whole)
 
 pub more-follows : (window : List ℕ) (at have : ℕ) (kept : List ℕ) → at < length window → 515 ≤ length kept
     → Follows window at 5 have kept
-    (afterTaking (at + taking window at have kept) (have + taking window at have kept)
-    (keptAfter kept have (drop at window) (taking window at have kept)))
-    (keptAfter kept have (drop at window) (taking window at have kept))
+    (after_taking (at + taking window at have kept) (have + taking window at have kept)
+    (kept_after kept have (drop at window) (taking window at have kept)))
+    (kept_after kept have (drop at window) (taking window at have kept))
 more-follows window at have kept inside room =
     λ r st.
     let front = rw st.record-bytes at st.record-front in
@@ -175,16 +175,16 @@ more-follows window at have kept inside room =
     (subst
     (λ (x : Run).
     Went x window at
-    (afterTaking (at + taking window at (length r.under) kept) (length r.under + taking window at (length r.under) kept)
-    (keptAfter kept (length r.under) (drop at window) (taking window at (length r.under) kept)))
-    (keptAfter kept (length r.under) (drop at window) (taking window at (length r.under) kept)))
+    (after_taking (at + taking window at (length r.under) kept) (length r.under + taking window at (length r.under) kept)
+    (kept_after kept (length r.under) (drop at window) (taking window at (length r.under) kept)))
+    (kept_after kept (length r.under) (drop at window) (taking window at (length r.under) kept)))
     (sym (stands-for r 5 have kept st))
     (went-more window at r.whole r.under kept inside room front st.record-cut))
 
 -- What a step promises, of its answer and the room as they are known.
 pub step-done : {window : List ℕ} {at matched have : ℕ} {kept after after' : List ℕ} {t t' : Taken} → t ≡ t' → after ≡ after'
     → Within window at t' after' → length after' ≡ length kept → Follows window at matched have kept t' after'
-    → nextTaken window at matched have kept ≡ t' → nextKept window at matched have kept ≡ after' → ReaderStep window at matched have kept t after
+    → next_taken window at matched have kept ≡ t' → next_kept window at matched have kept ≡ after' → ReaderStep window at matched have kept t after
 step-done {window} {at} {matched} {have} {kept} {after} {after'} {t} {t'} e f within long follows answer room =
     subst (λ (x : Taken). ReaderStep window at matched have kept x after) (sym e)
     (subst (λ (l : List ℕ). ReaderStep window at matched have kept t' l) (sym f)
@@ -193,41 +193,41 @@ step-done {window} {at} {matched} {have} {kept} {after} {after'} {t} {t'} e f wi
 -- ---- The answer, way by way.
 
 module _ (window : List ℕ) (at matched have : ℕ) (kept : List ℕ) where
-  pub next-preamble : matched < 5 → nextTaken window at matched have kept ≡ nothing (at + 1) (matchedBy matched (get_or window at 0)) have
-  unfolding nextTaken
+  pub next-preamble : matched < 5 → next_taken window at matched have kept ≡ nothing (at + 1) (matched_by matched (get_or window at 0)) have
+  unfolding next_taken
   next-preamble lt = rw (lt-ltb matched 5 lt)
 
-  pub kept-preamble : matched < 5 → nextKept window at matched have kept ≡ kept
-  unfolding nextKept
+  pub kept-preamble : matched < 5 → next_kept window at matched have kept ≡ kept
+  unfolding next_kept
   kept-preamble lt = rw (lt-ltb matched 5 lt)
 
-  pub next-spoiled : 5 < matched → nextTaken window at matched have kept ≡ nothing (length window) matched have
-  unfolding nextTaken
+  pub next-spoiled : 5 < matched → next_taken window at matched have kept ≡ nothing (length window) matched have
+  unfolding next_taken
   next-spoiled lt = rw (le-ltb matched 5 (omega arith), lt-ltb 5 matched lt)
 
-  pub kept-spoiled : 5 < matched → nextKept window at matched have kept ≡ kept
-  unfolding nextKept
+  pub kept-spoiled : 5 < matched → next_kept window at matched have kept ≡ kept
+  unfolding next_kept
   kept-spoiled lt = rw (le-ltb matched 5 (omega arith), lt-ltb 5 matched lt)
 
   module _ (five : matched ≡ 5) where
-    pub next-whole : liesWhole window at have ≡ true → nextTaken window at matched have kept ≡ wholeRecord at (word_at window at)
-    unfolding nextTaken
+    pub next-whole : lies_whole window at have ≡ true → next_taken window at matched have kept ≡ whole_record at (word_at window at)
+    unfolding next_taken
     next-whole h = rw (five, h)
 
-    pub kept_whole : liesWhole window at have ≡ true → nextKept window at matched have kept ≡ kept
-    unfolding nextKept
+    pub kept_whole : lies_whole window at have ≡ true → next_kept window at matched have kept ≡ kept
+    unfolding next_kept
     kept_whole h = rw (five, h)
 
-    pub next_more : liesWhole window at have ≡ false
-        → nextTaken window at matched have kept
-        ≡ afterTaking (at + taking window at have kept) (have + taking window at have kept)
-        (keptAfter kept have (drop at window) (taking window at have kept))
-    unfolding nextTaken
+    pub next_more : lies_whole window at have ≡ false
+        → next_taken window at matched have kept
+        ≡ after_taking (at + taking window at have kept) (have + taking window at have kept)
+        (kept_after kept have (drop at window) (taking window at have kept))
+    unfolding next_taken
     next_more h = rw (five, h)
 
-    pub kept_more : liesWhole window at have ≡ false
-        → nextKept window at matched have kept ≡ keptAfter kept have (drop at window) (taking window at have kept)
-    unfolding nextKept
+    pub kept_more : lies_whole window at have ≡ false
+        → next_kept window at matched have kept ≡ kept_after kept have (drop at window) (taking window at have kept)
+    unfolding next_kept
     kept_more h = rw (five, h)
 
 pub five-left : (m : ℕ) → 5 ≤ m → m ≤ 5 → m ≡ 5
@@ -235,29 +235,29 @@ five-left m a b = omega arith
 
 -- A record that begins and ends in the window.
 pub start-follows : (window : List ℕ) (at matched have : ℕ) (kept : List ℕ) → matched ≡ 5 → have ≡ 0
-    → at + 2 + word_at window at ≤ length window → Follows window at matched have kept (wholeRecord at (word_at window at)) kept
+    → at + 2 + word_at window at ≤ length window → Follows window at matched have kept (whole_record at (word_at window at)) kept
 start-follows window at matched have kept m h lies = rw (m, h) (whole-follows window at kept lies)
 
 -- One that the window has in part.
 pub more-done : {window : List ℕ} {at matched have : ℕ} {kept after : List ℕ} {t : Taken} → matched ≡ 5 → at < length window
-    → 515 ≤ length kept → after ≡ keptAfter kept have (drop at window) (taking window at have kept)
-    → t ≡ afterTaking (at + taking window at have kept) (have + taking window at have kept) after → t.have ≤ mostRecord
-    → 1 ≤ taking window at have kept → liesWhole window at have ≡ false → ReaderStep window at matched have kept t after
+    → 515 ≤ length kept → after ≡ kept_after kept have (drop at window) (taking window at have kept)
+    → t ≡ after_taking (at + taking window at have kept) (have + taking window at have kept) after → t.have ≤ most_record
+    → 1 ≤ taking window at have kept → lies_whole window at have ≡ false → ReaderStep window at matched have kept t after
 more-done {window} {at} {matched} {have} {kept} {after} {t} m inside room f e most some lies =
     let n : ℕ = taking window at have kept in
     let long : length after ≡ length kept =
     ap (λ (l : List ℕ). length l) f
     ∙ length-kept kept have (drop at window) n room (omega (arith, length-drop at window)) in
-    let follows : Follows window at 5 have kept (afterTaking (at + n) (have + n) after) after =
-    subst (λ (l : List ℕ). Follows window at 5 have kept (afterTaking (at + n) (have + n) l) l) (sym f) (more-follows window at have kept inside room) in
+    let follows : Follows window at 5 have kept (after_taking (at + n) (have + n) after) after =
+    subst (λ (l : List ℕ). Follows window at 5 have kept (after_taking (at + n) (have + n) l) l) (sym f) (more-follows window at have kept inside room) in
     step-done e refl
     (within_more window at (at + n) (have + n) after (omega arith) (omega arith) (omega (arith, long)) (rw e at most))
     long (rw m follows)
-    (next_more window at matched have kept m lies ∙ ap (afterTaking (at + n) (have + n)) (sym f)) (kept_more window at matched have kept m lies ∙ sym f)
+    (next_more window at matched have kept m lies ∙ ap (after_taking (at + n) (have + n)) (sym f)) (kept_more window at matched have kept m lies ∙ sym f)
 
 -- What the test of a whole record tells.
-pub whole-first : (window : List ℕ) (at have : ℕ) → liesWhole window at have ≡ true → have ≡ 0
+pub whole-first : (window : List ℕ) (at have : ℕ) → lies_whole window at have ≡ true → have ≡ 0
 whole-first window at have e = eqb-true have 0 (and_left (eqb have 0) _ e)
 
-pub whole-lies : (window : List ℕ) (at have : ℕ) → liesWhole window at have ≡ true → at + 2 + word_at window at ≤ length window
+pub whole-lies : (window : List ℕ) (at have : ℕ) → lies_whole window at have ≡ true → at + 2 + word_at window at ≤ length window
 whole-lies window at have e = leb-true (at + 2 + word_at window at) (length window) (and_right (eqb have 0) _ e)

@@ -8,8 +8,8 @@ use Rattle.session_file.specs.Plain.{HasPreamble, Splits}
 abbrev pub preamble : List ℕ
 preamble = 0x50 ∷ 0x4A ∷ 0x4C ∷ 1 ∷ 0 ∷ []
 
-abbrev pub preambleSize : ℕ
-preambleSize = 5
+abbrev pub preamble_size : ℕ
+preamble_size = 5
 
 -- Rule 9.4: in place of a count of the preamble's bytes, where one of them is wrong.
 abbrev pub spoiled : ℕ
@@ -31,17 +31,17 @@ is_whole h = leb 2 (length h) && eqb (length h) (2 + word_at h 0)
 
 -- Rule 9.1: the record under way has one more byte: when it is whole, its packet is what stands behind its length.
 unfoldable pub recorded : List (List ℕ) → List ℕ → Run
-recorded whole h = cond (is_whole h) (run preambleSize (whole ++ (drop 2 h ∷ [])) []) (run preambleSize whole h)
+recorded whole h = cond (is_whole h) (run preamble_size (whole ++ (drop 2 h ∷ [])) []) (run preamble_size whole h)
 
 -- Rules 9.1 and 9.4: the next byte of the preamble is right, or the file is spoiled for good.
-unfoldable pub matchedBy : ℕ → ℕ → ℕ
-matchedBy matched b = cond (eqb b (get_or preamble matched 0)) (matched + 1) spoiled
+unfoldable pub matched_by : ℕ → ℕ → ℕ
+matched_by matched b = cond (eqb b (get_or preamble matched 0)) (matched + 1) spoiled
 
 -- One byte more of the file.
 unfoldable pub grown : Run → ℕ → Run
 grown r b =
-    cond (eqb r.matched preambleSize) (recorded r.whole (r.under ++ (b ∷ [])))
-    (cond (ltb r.matched preambleSize) (run (matchedBy r.matched b) r.whole r.under) r)
+    cond (eqb r.matched preamble_size) (recorded r.whole (r.under ++ (b ∷ [])))
+    (cond (ltb r.matched preamble_size) (run (matched_by r.matched b) r.whole r.under) r)
 
 -- More bytes of the file.
 unfoldable pub taken : Run → List ℕ → Run
@@ -52,33 +52,33 @@ taken r (b ∷ bs) = taken (grown r b) bs
 abbrev pub start : Run
 start = run 0 [] []
 
-unfoldable pub fileRun : List ℕ → Run
-fileRun file = taken start file
+unfoldable pub file_run : List ℕ → Run
+file_run file = taken start file
 
 -- Rule 9.4: preamble and version are there.
-abbrev pub isSession : List ℕ → Bool
-isSession file = eqb (fileRun file).matched preambleSize
+abbrev pub is_session : List ℕ → Bool
+is_session file = eqb (file_run file).matched preamble_size
 
 -- ---- The same, apart from the reading byte by byte.
 
 -- Rules 9.1, 9.3 and 9.4: a file is a session exactly if it begins with the preamble; its records and what is left of it are then the only ones that
 -- the bytes behind the preamble split into.
 pub record FileRead (file : List ℕ) : Type 0 where
-  pub session : ((fileRun file).matched ≡ 5) ↔ HasPreamble file
-  pub splits : HasPreamble file → Splits (drop 5 file) (fileRun file).whole (fileRun file).under
+  pub session : ((file_run file).matched ≡ 5) ↔ HasPreamble file
+  pub splits : HasPreamble file → Splits (drop 5 file) (file_run file).whole (file_run file).under
   pub only : HasPreamble file → (packets : List (List ℕ)) (h : List ℕ) → Splits (drop 5 file) packets h
-      → ((fileRun file).whole ≡ packets) × ((fileRun file).under ≡ h)
+      → ((file_run file).whole ≡ packets) × ((file_run file).under ≡ h)
   -- Rule 9.4: of another file no record is taken.
-  pub none : (HasPreamble file → ⊥) → (fileRun file).whole ≡ []
+  pub none : (HasPreamble file → ⊥) → (file_run file).whole ≡ []
 
 -- Rule 9.6: windows, taken one after another, each where the one before it ended.
-abbrev pub takenAll : Run → List (List ℕ) → Run
-takenAll r [] = r
-takenAll r (w ∷ ws) = takenAll (taken r w) ws
+abbrev pub taken_all : Run → List (List ℕ) → Run
+taken_all r [] = r
+taken_all r (w ∷ ws) = taken_all (taken r w) ws
 
 -- What holds of whole files, so that no one step's contract can carry it.
 pub record Files : Type 0 where
   -- Rules 9.1, 9.3 and 9.4.
   pub read : (file : List ℕ) → FileRead file
   -- Rule 9.6: however a file is cut into windows, they leave what the whole file leaves.
-  pub any-split : (ws : List (List ℕ)) → takenAll start ws ≡ fileRun (flatten ws)
+  pub any-split : (ws : List (List ℕ)) → taken_all start ws ≡ file_run (flatten ws)

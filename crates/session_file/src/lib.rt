@@ -1,9 +1,11 @@
 // Reads the records of a session file through windows: each call takes some bytes of a window, and tells where a record that has become whole stands.
+#![tactic(auto)]
+
 ghost use Rattle.std.specs.Prelude.{◌+◌, ◌-◌, ◌≤◌, ◌<◌, ◌≡◌, length, get_or, drop, min};
 ghost use Rattle.wire.specs.Numbers.{word_at};
-ghost use Rattle.session_file.specs.Session.{preamble, preambleSize, matchedBy, Files};
-ghost use Rattle.session_file.specs.Windows.{keptSize, mostRecord, ReaderStep};
-ghost use Rattle.session_file.specs.Windows.{nothing, wholeRecord, lacking, taking, keptAfter, afterTaking, liesWhole};
+ghost use Rattle.session_file.specs.Session.{preamble, preamble_size, matched_by, Files};
+ghost use Rattle.session_file.specs.Windows.{kept_size, most_record, ReaderStep};
+ghost use Rattle.session_file.specs.Windows.{nothing, whole_record, lacking, taking, kept_after, after_taking, «lies_whole»};
 
 // Bytes of preamble; and the number that stands in place of their count where one is wrong.
 pub const PREAMBLE_SIZE: usize = 5;
@@ -43,7 +45,7 @@ pub struct Taken {
 // Takes bytes of the window from a place on: one of the preamble, a record that lies whole in the window, which is not copied, or as many as the record under
 // way is known to lack; all of them, where the preamble was wrong.
 pub fn next(window: &[u8], at: usize, matched: usize, have: usize, kept: &mut [u8]) -> Taken
-    requires { (at < length window.now) × (keptSize ≤ length kept.old) × (have ≤ mostRecord) }
+    requires { (at < length window.now) × (kept_size ≤ length kept.old) × (have ≤ most_record) }
     ensures { ReaderStep window.now at matched have kept.old result kept.new }
 {
     if matched < PREAMBLE_SIZE {
@@ -60,8 +62,8 @@ pub fn next(window: &[u8], at: usize, matched: usize, have: usize, kept: &mut [u
 
 // A byte of the preamble.
 fn preamble_byte(window: &[u8], at: usize, matched: usize, have: usize) -> Taken
-    requires { (at < length window.now) × (matched < preambleSize) }
-    ensures { result ≡ nothing (at + 1) (matchedBy matched (get_or window.now at 0)) have }
+    requires { (at < length window.now) × (matched < preamble_size) }
+    ensures { result ≡ nothing (at + 1) (matched_by matched (get_or window.now at 0)) have }
 {
     if window[at] == preamble_at(matched) {
         return none_yet(at + 1, matched + 1, have);
@@ -85,7 +87,7 @@ fn none_yet(at: usize, matched: usize, have: usize) -> Taken
 
 // The bytes of preamble.
 fn preamble_at(i: usize) -> u8
-    requires { i < preambleSize }
+    requires { i < preamble_size }
     ensures { result ≡ get_or preamble i 0 }
 {
     let bytes = b"PJL\x01\x00";
@@ -95,7 +97,7 @@ fn preamble_at(i: usize) -> u8
 // Whether a record begins here, and lies in the window with all its bytes.
 fn lies_whole(window: &[u8], at: usize, have: usize) -> bool
     requires { at < length window.now }
-    ensures { result ≡ liesWhole window.now at have }
+    ensures { result ≡ «lies_whole» window.now at have }
 {
     if have != 0 {
         return false;
@@ -106,7 +108,7 @@ fn lies_whole(window: &[u8], at: usize, have: usize) -> bool
 // Such a record.
 fn whole_at(window: &[u8], at: usize) -> Taken
     requires { at + 2 + word_at window.now at ≤ length window.now }
-    ensures { result ≡ wholeRecord at (word_at window.now at) }
+    ensures { result ≡ whole_record at (word_at window.now at) }
 {
     let size = wire::word(window, at);
     Taken {
@@ -121,12 +123,12 @@ fn whole_at(window: &[u8], at: usize) -> Taken
 
 // Bytes of a record that the window has in part.
 fn more(window: &[u8], at: usize, have: usize, kept: &mut [u8]) -> Taken
-    requires { (at < length window.now) × (keptSize ≤ length kept.old) × (have ≤ mostRecord) }
+    requires { (at < length window.now) × (kept_size ≤ length kept.old) × (have ≤ most_record) }
     ensures { (kept.new
-        ≡ keptAfter kept.old have (drop at window.now) (taking window.now at have kept.old))
-        × (result ≡ afterTaking (at + taking window.now at have kept.old)
+        ≡ kept_after kept.old have (drop at window.now) (taking window.now at have kept.old))
+        × (result ≡ after_taking (at + taking window.now at have kept.old)
         (have + taking window.now at have kept.old) kept.new)
-        × (result.have ≤ mostRecord) × (1 ≤ taking window.now at have kept.old) }
+        × (result.have ≤ most_record) × (1 ≤ taking window.now at have kept.old) }
 {
     let n = least(missing(have, kept), window.len() - at);
     keep(window, at, n, have, kept);
@@ -135,7 +137,7 @@ fn more(window: &[u8], at: usize, have: usize, kept: &mut [u8]) -> Taken
 
 // How many bytes the record under way lacks, as far as is known: first those of its length.
 fn missing(have: usize, kept: &[u8]) -> usize
-    ensures { (result ≡ lacking have kept.now) × (1 ≤ result) × (result ≤ mostRecord) }
+    ensures { (result ≡ lacking have kept.now) × (1 ≤ result) × (result ≤ most_record) }
 {
     if have < 2 {
         return 2 - have;
@@ -149,8 +151,8 @@ fn missing(have: usize, kept: &[u8]) -> usize
 
 // Keeps the bytes taken, as far as there is room for them.
 fn keep(window: &[u8], at: usize, n: usize, have: usize, kept: &mut [u8])
-    requires { (at + n ≤ length window.now) × (keptSize ≤ length kept.old) }
-    ensures { kept.new ≡ keptAfter kept.old have (drop at window.now) n }
+    requires { (at + n ≤ length window.now) × (kept_size ≤ length kept.old) }
+    ensures { kept.new ≡ kept_after kept.old have (drop at window.now) n }
 {
     if KEPT_SIZE <= have {
         return;
@@ -161,7 +163,7 @@ fn keep(window: &[u8], at: usize, n: usize, have: usize, kept: &mut [u8])
 
 // The record under way has so many bytes: whole, or not.
 fn judged(at: usize, have: usize, kept: &[u8]) -> Taken
-    ensures { (result ≡ afterTaking at have kept.now) × (result.have ≤ mostRecord) }
+    ensures { (result ≡ after_taking at have kept.now) × (result.have ≤ most_record) }
 {
     if have < 2 {
         return none_yet(at, PREAMBLE_SIZE, have);

@@ -7,21 +7,21 @@ use native.Mathlib.Omega.{arith}
 use borrow.Author.Tests.{ne_eqb}
 use lib.ListN.{length}
 use Rattle.wire.specs.Numbers.{byte_at}
-use Rattle.opcode.specs.Options.{isRead}
-use Rattle.opcode.specs.Commands.{commandOf, fixed}
+use Rattle.opcode.specs.Options.{is_read}
+use Rattle.opcode.specs.Commands.{command_of, fixed}
 use Rattle.opcode.specs.Allowed.{SendsNothing, ReadData, WriteData, Allowed}
-use Rattle.settings.specs.Layout.{pwmPlace, pwmSize, settingsEnd}
-use Rattle.settings.specs.Layout.{placeOf}
-use Rattle.settings.specs.Internal.{sizeByOpcode, KeptSize}
+use Rattle.settings.specs.Layout.{pwm_place, pwm_size, settings_end}
+use Rattle.settings.specs.Layout.{place_of}
+use Rattle.settings.specs.Internal.{size_by_opcode, KeptSize}
 use Rattle.opcode.proofs.Accepts.Commands.{of-carried}
 
 -- A fixed command's place and sizes, for data that carries so many bytes behind the pin or port.
 record Sized (op carried : ℕ) (d : List ℕ) : Type 0 where
-  room : placeOf op d + (commandOf op).back ≤ settingsEnd
-  long : (commandOf op).read + carried ≡ length d
+  room : place_of op d + (command_of op).back ≤ settings_end
+  long : (command_of op).read + carried ≡ length d
 
-nothing-sized : {op : ℕ} → SendsNothing op → (commandOf op).kind ≡ fixed → Sized op 0 []
-unfolding commandOf placeOf
+nothing-sized : {op : ℕ} → SendsNothing op → (command_of op).kind ≡ fixed → Sized op 0 []
+unfolding command_of place_of
 nothing-sized SendsNothing.read-11 m = omega arith
 nothing-sized SendsNothing.read-12 m = omega arith
 nothing-sized SendsNothing.read-13 m = omega arith
@@ -36,12 +36,12 @@ nothing-sized SendsNothing.read-39 m = omega arith
 nothing-sized SendsNothing.read-6C m = omega arith
 
 -- A PWM port up to 10 stands in its own place.
-pub own-slot : (d : List ℕ) → byte_at d 0 ≤ 10 → placeOf 0x65 d ≡ pwmPlace + pwmSize * byte_at d 0
-unfolding placeOf
+pub own-slot : (d : List ℕ) → byte_at d 0 ≤ 10 → place_of 0x65 d ≡ pwm_place + pwm_size * byte_at d 0
+unfolding place_of
 own-slot d h = rw (ne_eqb (byte_at d 0) 13 (λ e. omega arith))
 
-read-sized : {op : ℕ} {d : List ℕ} → ReadData op d → (commandOf op).kind ≡ fixed → Sized op 0 d
-unfolding commandOf placeOf
+read-sized : {op : ℕ} {d : List ℕ} → ReadData op d → (command_of op).kind ≡ fixed → Sized op 0 d
+unfolding command_of place_of
 read-sized (ReadData.nothing s) m = nothing-sized s m
 read-sized (ReadData.pin h) m = omega arith
 read-sized (ReadData.level h) m = omega arith
@@ -51,8 +51,8 @@ read-sized (ReadData.uart h) m = omega arith
 read-sized (ReadData.points h k) m = absurd (omega arith)
 read-sized (ReadData.gains h k l n) m = absurd (omega arith)
 
-write-sized : {op : ℕ} {d : List ℕ} → WriteData op d → (commandOf op).kind ≡ fixed → Sized op (commandOf op).back d
-unfolding commandOf placeOf
+write-sized : {op : ℕ} {d : List ℕ} → WriteData op d → (command_of op).kind ≡ fixed → Sized op (command_of op).back d
+unfolding command_of place_of
 write-sized (WriteData.display h) m = omega arith
 write-sized (WriteData.latency h) m = omega arith
 write-sized (WriteData.freeze h) m = omega arith
@@ -76,21 +76,21 @@ write-sized (WriteData.smooth h i j k e) m = absurd (omega arith)
 write-sized (WriteData.gains h i e s) m = absurd (omega arith)
 write-sized (WriteData.runs h i e s) m = absurd (omega arith)
 
-pub place-fits : {op o : ℕ} {d : List ℕ} → Allowed op o d → (commandOf op).kind ≡ fixed → placeOf op d + (commandOf op).back ≤ settingsEnd
+pub place-fits : {op o : ℕ} {d : List ℕ} → Allowed op o d → (command_of op).kind ≡ fixed → place_of op d + (command_of op).back ≤ settings_end
 place-fits (Allowed.asks h r) m = (read-sized r m).room
 place-fits (Allowed.sets h w l) m = (write-sized w m).room
 
-pub read-long : {op o : ℕ} {d : List ℕ} → Allowed op o d → isRead o ≡ 1 → (commandOf op).kind ≡ fixed → (commandOf op).read ≡ length d
+pub read-long : {op o : ℕ} {d : List ℕ} → Allowed op o d → is_read o ≡ 1 → (command_of op).kind ≡ fixed → (command_of op).read ≡ length d
 read-long (Allowed.asks h r) e m = omega (arith, (read-sized r m).long)
 read-long (Allowed.sets h w l) e m = absurd (omega arith)
 
-pub write-long : {op o : ℕ} {d : List ℕ} → Allowed op o d → isRead o ≡ 0 → (commandOf op).kind ≡ fixed
-    → (commandOf op).read + (commandOf op).back ≡ length d
+pub write-long : {op o : ℕ} {d : List ℕ} → Allowed op o d → is_read o ≡ 0 → (command_of op).kind ≡ fixed
+    → (command_of op).read + (command_of op).back ≡ length d
 write-long (Allowed.asks h r) e m = absurd (omega arith)
 write-long (Allowed.sets h w l) e m = (write-sized w m).long
 
 -- The sizes by opcode, and the list of commands walked once.
-pub kept-size : (op r : ℕ) → r ≡ sizeByOpcode op → r ≤ 10 → KeptSize op r
-unfolding commandOf sizeByOpcode
+pub kept-size : (op r : ℕ) → r ≡ size_by_opcode op → r ≤ 10 → KeptSize op r
+unfolding command_of size_by_opcode
 kept-size op r e few =
-    record { outcome = e; carried = λ h. e ∙ of-carried (λ op. sizeByOpcode op ≡ (commandOf op).back) (omega arith) op h; few = few }
+    record { outcome = e; carried = λ h. e ∙ of-carried (λ op. size_by_opcode op ≡ (command_of op).back) (omega arith) op h; few = few }

@@ -10,10 +10,10 @@ use lib.Dec.{eqb, leb}
 use Rattle.wire.specs.Numbers.{byte_at}
 use Rattle.opcode.specs.declared.Field.{Field}
 use Rattle.opcode.specs.Fields.{byte, takes, number, fault}
-use Rattle.opcode.specs.Commands.{commandOf}
+use Rattle.opcode.specs.Commands.{command_of}
 use Rattle.opcode.proofs.Accepts.Fields.{span, least}
-use Rattle.settings.specs.Ranges.{right, fields_of, behindPort, forEach, updateMode, deviceFields}
-use Rattle.settings.specs.Layout.{lockPlace, pinCount, pinPlace, pwmCount, pwmPlace, uartCount, uartPlace, updatePlace}
+use Rattle.settings.specs.Ranges.{right, fields_of, behind_port, for_each, update_mode, device_fields}
+use Rattle.settings.specs.Layout.{lock_place, pin_count, pin_place, pwm_count, pwm_place, uart_count, uart_place, update_place}
 
 pub span-append : (fs gs : List Field) → span (fs ++ gs) ≡ span fs + span gs
 span-append [] gs = omega arith
@@ -35,13 +35,13 @@ five e f g h k d at = simp right-append
 
 -- The runs from 39h's place on.
 pub device-runs : (d : List ℕ)
-    → right deviceFields d updatePlace
-    ≡ (right (updateMode ∷ []) d updatePlace && right (forEach pinCount (behindPort 0x60)) d pinPlace && right (forEach pwmCount (behindPort 0x65)) d pwmPlace
-    && right (fields_of 0x6C) d lockPlace
-    && right (forEach uartCount (behindPort 0x6D)) d uartPlace)
-unfolding deviceFields commandOf
+    → right device_fields d update_place
+    ≡ (right (update_mode ∷ []) d update_place && right (for_each pin_count (behind_port 0x60)) d pin_place && right (for_each pwm_count (behind_port 0x65)) d pwm_place
+    && right (fields_of 0x6C) d lock_place
+    && right (for_each uart_count (behind_port 0x6D)) d uart_place)
+unfolding device_fields command_of
 device-runs d =
-    five (updateMode ∷ []) (forEach pinCount (behindPort 0x60)) (forEach pwmCount (behindPort 0x65)) (fields_of 0x6C) (forEach uartCount (behindPort 0x6D)) d updatePlace
+    five (update_mode ∷ []) (for_each pin_count (behind_port 0x60)) (for_each pwm_count (behind_port 0x65)) (fields_of 0x6C) (for_each uart_count (behind_port 0x6D)) d update_place
 
 -- The place of the first fault is behind the last field exactly if each field takes its number.
 fault-step : (t r : Bool) (place at past : ℕ) → at < past → eqb place past ≡ r → eqb (cond t place at) past ≡ (t && r)
@@ -67,12 +67,12 @@ right-byte high d at = rw (takes-byte high (byte_at d at), and-true)
 
 -- The same run again and again, joined to what came before: one more, and the end.
 module _ (fs : List Field) (d : List ℕ) (fine : Bool) (i n at : ℕ) where
-  pub each_turn : i < n → (fine && right (forEach (n - i) fs) d at) ≡ (fine && right fs d at && right (forEach (n - (i + 1)) fs) d (at + span fs))
+  pub each_turn : i < n → (fine && right (for_each (n - i) fs) d at) ≡ (fine && right fs d at && right (for_each (n - (i + 1)) fs) d (at + span fs))
   each_turn h =
       let left : n - i ≡ suc (n - (i + 1)) = omega arith in
-      rw (left, right-append fs (forEach (n - (i + 1)) fs) d at) (sym (and_assoc fine (right fs d at) (right (forEach (n - (i + 1)) fs) d (at + span fs))))
+      rw (left, right-append fs (for_each (n - (i + 1)) fs) d at) (sym (and_assoc fine (right fs d at) (right (for_each (n - (i + 1)) fs) d (at + span fs))))
 
-  pub each-done : n ≤ i → (fine && right (forEach (n - i) fs) d at) ≡ fine
+  pub each-done : n ≤ i → (fine && right (for_each (n - i) fs) d at) ≡ fine
   unfolding right
   each-done h = let left : n - i ≡ 0 = omega arith in rw (left, and-true)
 

@@ -7,7 +7,7 @@ use native.Mathlib.Omega.{arith}
 use borrow.Author.Tests.{ne_eqb}
 use lib.Dec.{eqb, ltb, eqb-suc-suc}
 use Rattle.wire.specs.Numbers.{word_at}
-use Rattle.opcode.specs.Fields.{wordsAt, riseFrom, rise}
+use Rattle.opcode.specs.Fields.{words_at, rise_from, rise}
 use Rattle.settings.specs.Ranges.{rising}
 
 -- No number is at fault exactly if the second is above the first and none is from there on.
@@ -16,12 +16,12 @@ above true k n = eqb-suc-suc (suc k) (suc n)
 above false k n = ne_eqb 1 (suc (suc n)) (λ e. omega arith)
 
 next : (d : List ℕ) (at n : ℕ) → rising d at (suc (suc n)) ≡ (ltb (word_at d at) (word_at d (at + 2)) && rising d (at + 2) (suc n))
-unfolding wordsAt riseFrom rise
+unfolding words_at rise_from rise
 next d at n =
-    above (ltb (word_at d at) (word_at d (at + 2))) (riseFrom (word_at d (at + 2)) (wordsAt d (at + 2 + 2) n)) n
+    above (ltb (word_at d at) (word_at d (at + 2))) (rise_from (word_at d (at + 2)) (words_at d (at + 2 + 2) n)) n
 
 one : (d : List ℕ) (at : ℕ) → rising d at 1 ≡ true
-unfolding wordsAt riseFrom rise
+unfolding words_at rise_from rise
 one d at = refl
 
 module _ (d : List ℕ) (fine : Bool) (i n at : ℕ) where

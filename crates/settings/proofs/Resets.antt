@@ -12,27 +12,27 @@ use Rattle.wire.specs.Numbers.{word_bytes}
 use Rattle.wire.specs.Tables.{bytes}
 use Rattle.wire.proofs.Laws.{sets-append}
 use Rattle.wire.proofs.Tables.{length-halves, halves-append}
-use Rattle.settings.specs.Reset.{count-up, resetShape, resetBlock}
-use Rattle.settings.specs.Internal.{spreadOver}
-use Rattle.settings.specs.Layout.{blockSize, liveShape, pwmPlace, smoothTable, stagedShape}
+use Rattle.settings.specs.Reset.{count_up, reset_shape, reset_block}
+use Rattle.settings.specs.Internal.{spread_over}
+use Rattle.settings.specs.Layout.{block_size, live_shape, pwm_place, smooth_table, staged_shape}
 
 -- One number more.
-length-counted : (i n : ℕ) → length (count-up i n) ≡ n
+length-counted : (i n : ℕ) → length (count_up i n) ≡ n
 length-counted i zero = refl
 length-counted i (suc n) = omega (arith, length-counted (suc i) n)
 
-counted : (i n m : ℕ) → m ≡ i + n → count-up i (suc n) ≡ count-up i n ++ (m ∷ [])
+counted : (i n m : ℕ) → m ≡ i + n → count_up i (suc n) ≡ count_up i n ++ (m ∷ [])
 counted i zero m e = let same : m ≡ i = omega arith in rw same
 counted i (suc n) m e = rw (counted (suc i) n m (omega arith))
 
-more : (i : ℕ) → bytes (count-up 0 (i + 1)) ≡ bytes (count-up 0 i) ++ word_bytes i
-more i = rw (add-one i) (ap bytes (counted 0 i i (omega arith)) ∙ halves-append 256 (count-up 0 i) (i ∷ []))
+more : (i : ℕ) → bytes (count_up 0 (i + 1)) ≡ bytes (count_up 0 i) ++ word_bytes i
+more i = rw (add-one i) (ap bytes (counted 0 i i (omega arith)) ∙ halves-append 256 (count_up 0 i) (i ∷ []))
 
 pub count_turn : (d : List ℕ) (place i : ℕ)
-    → sets (sets d place (bytes (count-up 0 i))) (place + 2 * i) (word_bytes i) ≡ sets d place (bytes (count-up 0 (i + 1)))
+    → sets (sets d place (bytes (count_up 0 i))) (place + 2 * i) (word_bytes i) ≡ sets d place (bytes (count_up 0 (i + 1)))
 count_turn d place i =
-    let long : 2 * i ≡ length (bytes (count-up 0 i)) = omega (arith, length-halves 256 (count-up 0 i), length-counted 0 i) in
-    rw (more i, long) (sets-append d place (bytes (count-up 0 i)) (word_bytes i))
+    let long : 2 * i ≡ length (bytes (count_up 0 i)) = omega (arith, length-halves 256 (count_up 0 i), length-counted 0 i) in
+    rw (more i, long) (sets-append d place (bytes (count_up 0 i)) (word_bytes i))
 
 -- A run behind another.
 behind : (d b b' : List ℕ) (at p : ℕ) (s t : List ℕ) → b ≡ sets d at s → b' ≡ sets b p t → p ≡ at + length s → b' ≡ sets d at (s ++ t)
@@ -40,26 +40,26 @@ behind d b b' at p s t h h' e = h' ∙ rw (h, e) (sets-append d at s t)
 
 module _ (d : List ℕ) (at : ℕ) {b₁ b₂ b₃ b₄ b₅ : List ℕ} where
   pub shape-over : b₁ ≡ sets d at (0 ∷ []) → b₂ ≡ sets b₁ (at + 1) (word_bytes 62) → b₃ ≡ sets b₂ (at + 3) (word_bytes 32)
-      → b₄ ≡ sets b₃ (at + 5) (bytes (count-up 0 62)) → b₅ ≡ sets b₄ (at + 129) (bytes (count-up 0 32)) → b₅ ≡ sets d at resetShape
-  unfolding resetShape
+      → b₄ ≡ sets b₃ (at + 5) (bytes (count_up 0 62)) → b₅ ≡ sets b₄ (at + 129) (bytes (count_up 0 32)) → b₅ ≡ sets d at reset_shape
+  unfolding reset_shape
   shape-over h₁ h₂ h₃ h₄ h₅ =
       let head = (0 ∷ []) ++ word_bytes 62 ++ word_bytes 32 in
       let e₂ = behind d b₁ b₂ at (at + 1) (0 ∷ []) (word_bytes 62) h₁ h₂ refl in
       let e₃ = behind d b₂ b₃ at (at + 3) ((0 ∷ []) ++ word_bytes 62) (word_bytes 32) e₂ h₃ refl in
-      let e₄ = behind d b₃ b₄ at (at + 5) head (bytes (count-up 0 62)) e₃ h₄ refl in
-      behind d b₄ b₅ at (at + 129) (head ++ bytes (count-up 0 62)) (bytes (count-up 0 32)) e₄ h₅ refl
+      let e₄ = behind d b₃ b₄ at (at + 5) head (bytes (count_up 0 62)) e₃ h₄ refl in
+      behind d b₄ b₅ at (at + 129) (head ++ bytes (count_up 0 62)) (bytes (count_up 0 32)) e₄ h₅ refl
 
-zeros-over : (d : List ℕ) (n : ℕ) → n ≤ length d → spreadOver d 0 1 0 n ≡ replicate n 0 ++ drop n d
-unfolding spreadOver
+zeros-over : (d : List ℕ) (n : ℕ) → n ≤ length d → spread_over d 0 1 0 n ≡ replicate n 0 ++ drop n d
+unfolding spread_over
 zeros-over d zero h = refl
 zeros-over d (suc n) h =
     let place : 0 + 1 * n ≡ n = omega arith in
     rw (place, zeros-over d n (omega arith)) (rw (add-one n) at (fill_more n 0 d (omega arith)))
 
-over_zeros : spreadOver (spreadOver (sets (sets (replicate blockSize 0) stagedShape resetShape) liveShape resetShape) smoothTable 1 3 2) pwmPlace 6 20 12 ≡ resetBlock
-unfolding spreadOver resetShape resetBlock
+over_zeros : spread_over (spread_over (sets (sets (replicate block_size 0) staged_shape reset_shape) live_shape reset_shape) smooth_table 1 3 2) pwm_place 6 20 12 ≡ reset_block
+unfolding spread_over reset_shape reset_block
 over_zeros = refl
 
-pub reset-over : (d : List ℕ) → length d ≡ blockSize
-    → spreadOver (spreadOver (sets (sets (spreadOver d 0 1 0 blockSize) stagedShape resetShape) liveShape resetShape) smoothTable 1 3 2) pwmPlace 6 20 12 ≡ resetBlock
-reset-over d e = rw (zeros-over d blockSize (omega arith), drop_of_length-le d {i = blockSize} (omega arith)) over_zeros
+pub reset-over : (d : List ℕ) → length d ≡ block_size
+    → spread_over (spread_over (sets (sets (spread_over d 0 1 0 block_size) staged_shape reset_shape) live_shape reset_shape) smooth_table 1 3 2) pwm_place 6 20 12 ≡ reset_block
+reset-over d e = rw (zeros-over d block_size (omega arith), drop_of_length-le d {i = block_size} (omega arith)) over_zeros

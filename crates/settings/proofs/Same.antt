@@ -8,15 +8,15 @@ use native.Mathlib.Decide.{ℕ_discrete}
 use native.Mathlib.Omega.{arith}
 use borrow.Author.Tests.{eqb-true, ne_eqb}
 use lib.Dec.{eqb}
-use Rattle.wire.specs.Numbers.{byte_at, word_at, longAt}
+use Rattle.wire.specs.Numbers.{byte_at, word_at, long_at}
 use Rattle.opcode.specs.declared.Field.{Field}
-use Rattle.opcode.specs.Fields.{number, wordsAt}
-use Rattle.opcode.specs.Commands.{commandOf}
+use Rattle.opcode.specs.Fields.{number, words_at}
+use Rattle.opcode.specs.Commands.{command_of}
 use Rattle.wire.proofs.Tests.{and_left, and_right}
 use Rattle.wire.proofs.Copies.{Same, front, part}
 use Rattle.opcode.specs.Fields.{span}
-use Rattle.settings.specs.Ranges.{right, fields_of, shapeRight, pictureFields, deviceFields, settingsRight}
-use Rattle.settings.specs.Layout.{shapeSize, stagedShape, enable, liveShape, smoothTable, updatePlace, settingsEnd}
+use Rattle.settings.specs.Ranges.{right, fields_of, shape_right, picture_fields, device_fields, settings_right}
+use Rattle.settings.specs.Layout.{shape_size, staged_shape, enable, live_shape, smooth_table, update_place, settings_end}
 
 -- Numbers.
 byte-same : {a b : List ℕ} {i j n : ℕ} → Same a i b j n → 1 ≤ n → byte_at a i ≡ byte_at b j
@@ -28,11 +28,11 @@ byte-same {a} {b} {i} {j} h l =
 word_same : {a b : List ℕ} {i j n : ℕ} → Same a i b j n → 2 ≤ n → word_at a i ≡ word_at b j
 word_same h l = rw (byte-same h (omega arith), h.each 1 (omega arith))
 
-long_same : {a b : List ℕ} {i j n : ℕ} → Same a i b j n → 4 ≤ n → longAt a i ≡ longAt b j
+long_same : {a b : List ℕ} {i j n : ℕ} → Same a i b j n → 4 ≤ n → long_at a i ≡ long_at b j
 long_same h l = rw (word_same h (omega arith), word_same (part h 2 2 (omega arith)) (omega arith))
 
-pub words_same : {a b : List ℕ} {i j : ℕ} (n : ℕ) → Same a i b j (2 * n) → wordsAt a i n ≡ wordsAt b j n
-unfolding wordsAt
+pub words_same : {a b : List ℕ} {i j : ℕ} (n : ℕ) → Same a i b j (2 * n) → words_at a i n ≡ words_at b j n
+unfolding words_at
 words_same zero h = refl
 words_same (suc n) h = rw (word_same h (omega arith), words_same n (part h 2 (2 * n) (omega arith)))
 
@@ -72,8 +72,8 @@ right-same (f ∷ fs) t h =
       right-same fs (and_right (wide f.size) (widths fs) t) (part h f.size (span fs) (omega arith)),
     )
 
-pub shape_same : {a b : List ℕ} {i j : ℕ} → Same a i b j shapeSize → shapeRight a i ≡ shapeRight b j
-unfolding shapeRight widths commandOf
+pub shape_same : {a b : List ℕ} {i j : ℕ} → Same a i b j shape_size → shape_right a i ≡ shape_right b j
+unfolding shape_right widths command_of
 shape_same h =
     rw (
       right-same (fields_of 0x35) refl (front h 5 (omega arith)),
@@ -85,14 +85,14 @@ shape_same h =
     )
 
 -- Blocks whose settings are equal are in range together.
-pub settings-same : {a b : List ℕ} → Same a 0 b 0 settingsEnd → settingsRight a ≡ settingsRight b
-unfolding settingsRight widths commandOf pictureFields deviceFields
+pub settings-same : {a b : List ℕ} → Same a 0 b 0 settings_end → settings_right a ≡ settings_right b
+unfolding settings_right widths command_of picture_fields device_fields
 settings-same h =
     rw (
-      right-same pictureFields refl (front h (span pictureFields) (omega arith)),
-      shape_same (part h stagedShape shapeSize (omega arith)),
+      right-same picture_fields refl (front h (span picture_fields) (omega arith)),
+      shape_same (part h staged_shape shape_size (omega arith)),
       right-same (fields_of 0x36) refl (part h enable 1 (omega arith)),
-      shape_same (part h liveShape shapeSize (omega arith)),
-      right-same (fields_of 0x38) refl (part h smoothTable 2 (omega arith)),
-      right-same deviceFields refl (part h updatePlace (settingsEnd - updatePlace) (omega arith)),
+      shape_same (part h live_shape shape_size (omega arith)),
+      right-same (fields_of 0x38) refl (part h smooth_table 2 (omega arith)),
+      right-same device_fields refl (part h update_place (settings_end - update_place) (omega arith)),
     )

@@ -1,4 +1,6 @@
 // The settings block: where a command's settings stand, whether every setting lies in its range, and reset.
+#![tactic(auto)]
+
 pub mod layout;
 mod limits;
 
@@ -6,14 +8,14 @@ ghost use Rattle.std.specs.Prelude.{◌≡◌, ◌&&◌, ◌||◌, ℕ, ◌+◌,
 ghost use Rattle.std.proofs.lemmas.List.Edits.{sets};
 ghost use Rattle.wire.specs.Numbers.{byte_at};
 ghost use Rattle.wire.specs.Tables.{bytes};
-ghost use Rattle.opcode.specs.Fields.{from-to, takes};
-ghost use Rattle.settings.specs.Layout.{blockSize, shapeSize, updatePlace, pinPlace, pinCount, pwmPlace, pwmCount};
-ghost use Rattle.settings.specs.Layout.{slot, placeOf, modeAt, columnsAt, rows_at, columnEntries, rowEntries};
+ghost use Rattle.opcode.specs.Fields.{from_to, takes};
+ghost use Rattle.settings.specs.Layout.{block_size, shape_size, update_place, pin_place, pin_count, pwm_place, pwm_count};
+ghost use Rattle.settings.specs.Layout.{slot, «place_of», mode_at, columns_at, rows_at, column_entries, row_entries};
 ghost use Rattle.settings.specs.Allowed.{SettingsAllowed};
-ghost use Rattle.settings.specs.Ranges.{right, behindPort, forEach, pictureFields, deviceFields};
-ghost use Rattle.settings.specs.Ranges.{rising, shapeRight, InRange};
-ghost use Rattle.settings.specs.Reset.{count-up, resetShape, resetBlock};
-ghost use Rattle.settings.specs.Internal.{spreadOver, KeptSize};
+ghost use Rattle.settings.specs.Ranges.{right, behind_port, for_each, picture_fields, device_fields};
+ghost use Rattle.settings.specs.Ranges.{rising, shape_right, InRange};
+ghost use Rattle.settings.specs.Reset.{count_up, «reset_shape», «reset_block»};
+ghost use Rattle.settings.specs.Internal.{spread_over, KeptSize};
 
 use layout::*;
 use limits::*;
@@ -21,7 +23,7 @@ use limits::*;
 // Whether every stored setting, staged and live, lies in its range. The bytes past them are not judged. Every packet asks this, so
 // the parts are judged one after another without an early return, each joined to what those before it came to.
 pub fn in_range(block: &[u8]) -> bool
-    requires { length block.now ≡ blockSize }
+    requires { length block.now ≡ block_size }
     ensures { InRange block.now result }
 {
     let fine = picture_in_range(block);
@@ -45,8 +47,8 @@ pub fn in_range(block: &[u8]) -> bool
 
 // 11h to 1Dh. Any look and any splash is right.
 fn picture_in_range(block: &[u8]) -> bool
-    requires { length block.now ≡ blockSize }
-    ensures { result ≡ right pictureFields block.now 0 }
+    requires { length block.now ≡ block_size }
+    ensures { result ≡ right picture_fields block.now 0 }
 {
     let fine = up_to(true, block, DISPLAY, MOST_DISPLAY);
     let fine = up_to(fine, block, LATENCY, MOST_FLAG);
@@ -59,8 +61,8 @@ fn picture_in_range(block: &[u8]) -> bool
 
 // The shape rule, of the shape at a place.
 fn shape_in_range(block: &[u8], shape: usize) -> bool
-    requires { shape + shapeSize ≤ length block.now }
-    ensures { result ≡ shapeRight block.now shape }
+    requires { shape + shape_size ≤ length block.now }
+    ensures { result ≡ shape_right block.now shape }
 {
     let fine = within(true, wire::byte(block, shape), 0, 1);
     let fine = within(
@@ -82,10 +84,10 @@ fn shape_in_range(block: &[u8], shape: usize) -> bool
 
 // Rule 4.1, 1: mode 1 has the shape 62 × 32 alone.
 fn counts_in_mode(block: &[u8], shape: usize) -> bool
-    requires { shape + shapeSize ≤ length block.now }
-    ensures { result ≡ (eqb (modeAt block.now shape) 0
-        || (eqb (columnsAt block.now shape) columnEntries
-        && eqb (rows_at block.now shape) rowEntries)) }
+    requires { shape + shape_size ≤ length block.now }
+    ensures { result ≡ (eqb (mode_at block.now shape) 0
+        || (eqb (columns_at block.now shape) column_entries
+        && eqb (rows_at block.now shape) row_entries)) }
 {
     if wire::byte(block, shape) == 0 {
         return true;
@@ -112,8 +114,8 @@ fn list_in_range(fine: bool, block: &[u8], at: usize, count: usize) -> bool
 
 // Update mode, pins, PWM ports, lock and UART ports, from update mode's place on.
 fn device_in_range(fine: bool, block: &[u8]) -> bool
-    requires { length block.now ≡ blockSize }
-    ensures { result ≡ (fine && right deviceFields block.now updatePlace) }
+    requires { length block.now ≡ block_size }
+    ensures { result ≡ (fine && right device_fields block.now update_place) }
 {
     let fine = up_to(fine, block, UPDATE_MODE, 0);
     let fine = pins_in_range(fine, block);
@@ -126,8 +128,8 @@ fn device_in_range(fine: bool, block: &[u8]) -> bool
 
 // Direction, level and drain of every pin, each 0 or 1.
 fn pins_in_range(fine: bool, block: &[u8]) -> bool
-    requires { length block.now ≡ blockSize }
-    ensures { result ≡ (fine && right (forEach pinCount (behindPort 0x60)) block.now pinPlace) }
+    requires { length block.now ≡ block_size }
+    ensures { result ≡ (fine && right (for_each pin_count (behind_port 0x60)) block.now pin_place) }
 {
     let mut all = fine;
     let mut i = 0;
@@ -140,8 +142,8 @@ fn pins_in_range(fine: bool, block: &[u8]) -> bool
 
 // Every PWM port.
 fn pwm_in_range(fine: bool, block: &[u8]) -> bool
-    requires { length block.now ≡ blockSize }
-    ensures { result ≡ (fine && right (forEach pwmCount (behindPort 0x65)) block.now pwmPlace) }
+    requires { length block.now ≡ block_size }
+    ensures { result ≡ (fine && right (for_each pwm_count (behind_port 0x65)) block.now pwm_place) }
 {
     let mut all = fine;
     let mut i = 0;
@@ -155,7 +157,7 @@ fn pwm_in_range(fine: bool, block: &[u8]) -> bool
 // Frequency, duty, on.
 fn pwm_port_in_range(fine: bool, block: &[u8], at: usize) -> bool
     requires { at + 6 ≤ length block.now }
-    ensures { result ≡ (fine && right (behindPort 0x65) block.now at) }
+    ensures { result ≡ (fine && right (behind_port 0x65) block.now at) }
 {
     let fine = within(fine, wire::long(block, at), LEAST_FREQUENCY, MOST_FREQUENCY);
     let fine = up_to(fine, block, at + 4, MOST_DUTY);
@@ -165,7 +167,7 @@ fn pwm_port_in_range(fine: bool, block: &[u8], at: usize) -> bool
 // On, baud, bits, stop, parity, flow, two triggers, polarity, source.
 fn uart_port_in_range(fine: bool, block: &[u8], at: usize) -> bool
     requires { at + 10 ≤ length block.now }
-    ensures { result ≡ (fine && right (behindPort 0x6D) block.now at) }
+    ensures { result ≡ (fine && right (behind_port 0x6D) block.now at) }
 {
     let fine = up_to(fine, block, at, MOST_FLAG);
     let fine = up_to(fine, block, at + 1, MOST_BAUD);
@@ -189,7 +191,7 @@ fn up_to(fine: bool, block: &[u8], at: usize, high: u8) -> bool
 
 // Joined to what came before: a number lies from low to high.
 fn within(fine: bool, v: usize, low: usize, high: usize) -> bool
-    ensures { result ≡ (fine && takes (from-to 1 low high) v) }
+    ensures { result ≡ (fine && takes (from_to 1 low high) v) }
 {
     if v < low {
         return false;
@@ -208,7 +210,7 @@ fn both(a: bool, b: bool) -> bool
 
 // The place of what a fixed command stores, from its data.
 pub fn place_of(opcode: usize, data: &[u8]) -> usize
-    ensures { (result ≡ placeOf opcode «data».now) × (result ≤ 4096) }
+    ensures { (result ≡ «place_of» opcode «data».now) × (result ≤ 4096) }
 {
     let port = wire::byte(data, 0);
     match opcode {
@@ -256,8 +258,8 @@ fn slot_of(port: usize) -> usize
 
 // The whole block as it is after reset: zeros, and over them the two shapes, the smooth table's counts and the PWM frequencies.
 pub fn reset_block(block: &mut [u8])
-    requires { length block.old ≡ blockSize }
-    ensures { (block.new ≡ resetBlock) × SettingsAllowed block.new }
+    requires { length block.old ≡ block_size }
+    ensures { (block.new ≡ «reset_block») × SettingsAllowed block.new }
 {
     spread(block, 0, 1, 0, BLOCK_SIZE);
     reset_shape(block, STAGED_SHAPE);
@@ -268,8 +270,8 @@ pub fn reset_block(block: &mut [u8])
 
 // Rule 5.10: all of a shape: mode 0, 62 columns, 32 rows, lists that count from 0.
 fn reset_shape(block: &mut [u8], shape: usize)
-    requires { shape + shapeSize ≤ length block.old }
-    ensures { block.new ≡ sets block.old shape resetShape }
+    requires { shape + shape_size ≤ length block.old }
+    ensures { block.new ≡ sets block.old shape «reset_shape» }
 {
     wire::put_byte(block, shape, 0);
     wire::put_word(block, shape + COLUMNS, COLUMN_ENTRIES);
@@ -281,7 +283,7 @@ fn reset_shape(block: &mut [u8], shape: usize)
 // Stores n 16-bit numbers from a place on: 0, 1, 2 and so on.
 fn store_counting(block: &mut [u8], place: usize, n: usize)
     requires { (n ≤ 65536) × (place + 2 * n ≤ length block.old) }
-    ensures { block.new ≡ sets block.old place (bytes (count-up 0 n)) }
+    ensures { block.new ≡ sets block.old place (bytes (count_up 0 n)) }
 {
     let mut i = 0;
     while i < n {
@@ -293,7 +295,7 @@ fn store_counting(block: &mut [u8], place: usize, n: usize)
 // Stores a byte n times, from a place on and step places apart.
 fn spread(block: &mut [u8], place: usize, step: usize, v: u8, n: usize)
     requires { (k : ℕ) → k < n → place + step * k < length block.old }
-    ensures { block.new ≡ spreadOver block.old place step v n }
+    ensures { block.new ≡ spread_over block.old place step v n }
 {
     let mut i = 0;
     while i < n {

@@ -1,4 +1,5 @@
 // Printing for the programs.
+#![tactic(auto)]
 
 // The first n bytes, in hexadecimal, with a space before each.
 pub fn bytes(s: &[u8], n: usize) {

@@ -7,9 +7,9 @@ use native.Mathlib.Decide.{ℕ_discrete, dec_lt}
 use native.Mathlib.Omega.{arith}
 use lib.ListN.{length, take, drop, length-append, take-append-drop}
 use lib.Seq.{take_at, drop_at}
-use Rattle.gain_words.specs.Pairs.{sumRuns}
+use Rattle.gain_words.specs.Pairs.{sum_runs}
 use Rattle.upload.specs.Plan.{joined}
-use Rattle.splitter.specs.Splitting.{splitOut}
+use Rattle.splitter.specs.Splitting.{split_out}
 use Rattle.splitter.specs.Plain.{SplitOut, CutUp, last, more, PairsRight, Splittable, SplitPlain, SplitPlainNumbers, SplitPlainBytes}
 
 -- Rule 10.3: words are cut up in one way: into all of them, or into the first 250 and the rest.
@@ -20,7 +20,7 @@ cut-one (more ws rest h k c) (last i l) e f = absurd (omega (arith, ap length f,
 cut-one {colour} {s} {t} (more ws rest h k c) (more vs behind i l d) e f =
     let front : ws ≡ vs = sym (take_at ws rest 250 h) ∙ ap (take 250) f ∙ take_at vs behind 250 i in
     let left : rest ≡ behind = sym (drop_at ws rest 250 h) ∙ ap (drop 250) f ∙ drop_at vs behind 250 i in
-    let on : s + sumRuns ws ≡ t + sumRuns vs = rw (e, front) in
+    let on : s + sum_runs ws ≡ t + sum_runs vs = rw (e, front) in
     let others = cut-one c d on left in
     rw (e, front, others)
 
@@ -29,7 +29,7 @@ settled : {S : Type 0} {m n : ℕ} → (S → m ≡ n) → ((S → ⊥) → m �
 settled {m = m} {n = n} f g = elim (ℕ_discrete m n) [ yes e ↦ e | no h ↦ absurd (h (g (λ s. h (f s)))) ]
 
 -- An outcome is its four fields; a list its two parts.
-same-fields : {s t m n i j : ℕ} {k l : List ℕ} → s ≡ t → m ≡ n → i ≡ j → k ≡ l → splitOut s m i k ≡ splitOut t n j l
+same-fields : {s t m n i j : ℕ} {k l : List ℕ} → s ≡ t → m ≡ n → i ≡ j → k ≡ l → split_out s m i k ≡ split_out t n j l
 same-fields e f g h = cc
 
 appended : {a b c d : List ℕ} → a ≡ b → c ≡ d → a ++ c ≡ b ++ d
@@ -44,7 +44,7 @@ module _ {each colour start : ℕ} {lent ws batch : List ℕ} {o p : SplitOut} (
       (λ whole.
       settled {S = PairsRight colour ws}
       (λ right.
-      elim (dec_lt 2016 (start + sumRuns ws)) [
+      elim (dec_lt 2016 (start + sum_runs ws)) [
         | yes past ↦ a.twelve whole right past ∙ sym (b.twelve whole right past)
         | no past ↦
             let can : Splittable colour start ws = record { right = right; within = omega arith } in

@@ -17,12 +17,12 @@ use Rattle.wire.specs.Tables.{words}
 use Rattle.wire.proofs.Tables.{length_pairs}
 use Rattle.wire.proofs.Laws.{take-over}
 use Rattle.wire.proofs.Tests.{told, or_left}
-use Rattle.gain_words.specs.Pairs.{sumRuns, pairFault, runsBeyond}
+use Rattle.gain_words.specs.Pairs.{sum_runs, pair_fault, runs_beyond}
 use Rattle.gain_words.proofs.Right.{fault-pairs, pairs-fault, pairs-even}
-use Rattle.splitter.specs.Split.{splitPackets, splitBatch}
+use Rattle.splitter.specs.Split.{split_packets, split_batch}
 use Rattle.splitter.specs.Plain.{SplitOut, PairsRight, Splittable}
-use Rattle.splitter.specs.Splitting.{batchRoom, splitOut, valuesWrong, splitRefusals, splitting, SplitRight, SplitBytes}
-use Rattle.splitter.specs.Internal.{refusalsOf, splitDone}
+use Rattle.splitter.specs.Splitting.{batch_room, split_out, values_wrong, split_refusals, splitting, SplitRight, SplitBytes}
+use Rattle.splitter.specs.Internal.{refusals_of, split_done}
 use Rattle.splitter.proofs.Cutting.{cut_up, cut-announced, split-small}
 
 -- A test that holds does not fail.
@@ -37,17 +37,17 @@ module _ (each : ℕ) (lent : List ℕ) where
   odd-tested : (odd ≡ false) ↔ (length lent % each ≡ 0)
   odd-tested = (λ e. eqb-true _ 0 (not-false _ e), λ h. rw (eq-eqb _ 0 h))
 
-values-tested : (colour : ℕ) (ws : List ℕ) → (valuesWrong colour ws ≡ false) ↔ PairsRight colour ws
+values-tested : (colour : ℕ) (ws : List ℕ) → (values_wrong colour ws ≡ false) ↔ PairsRight colour ws
 values-tested colour ws = (
   λ e.
-      let front : (eqb (length ws) 0 || ltb 3 colour) ≡ false = or_left _ (ltb (pairFault ws) (length ws)) e in
+      let front : (eqb (length ws) 0 || ltb 3 colour) ≡ false = or_left _ (ltb (pair_fault ws) (length ws)) e in
       let none : length ws ≡ 0 → ⊥ = eqb-false (length ws) 0 (or_left _ (ltb 3 colour) front) in
       record { some = omega arith; pairs = fault-pairs ws (search (told, e)); colour-right = search (told, front) },
   λ r.
       rw (
         ne_eqb (length ws) 0 (λ e. omega (arith, r.some)),
         le-ltb 3 colour r.colour-right,
-        le-ltb (pairFault ws) (length ws) (omega (arith, pairs-fault r.pairs)),
+        le-ltb (pair_fault ws) (length ws) (omega (arith, pairs-fault r.pairs)),
       ),
 )
 
@@ -62,10 +62,10 @@ module _ (each colour start : ℕ) (lent ws batch : List ℕ) where
   Right o = SplitRight each colour start lent ws batch o
 
   -- Refused by a number.
-  turned_down : (number : ℕ) → (number ≡ 0 → ⊥) → answer ≡ splitOut number 0 0 batch → (Whole × Splittable colour start ws × (8234 ≤ length batch) → ⊥)
+  turned_down : (number : ℕ) → (number ≡ 0 → ⊥) → answer ≡ split_out number 0 0 batch → (Whole × Splittable colour start ws × (8234 ≤ length batch) → ⊥)
       → (number ≡ 9) ↔ (Whole → ⊥) → (Whole → (number ≡ 10) ↔ (PairsRight colour ws → ⊥))
-      → (Whole → PairsRight colour ws → 2016 < start + sumRuns ws → number ≡ 12)
-      → (Whole → Splittable colour start ws → length batch < 8234 → number ≡ 1) → Right (splitOut number 0 0 batch)
+      → (Whole → PairsRight colour ws → 2016 < start + sum_runs ws → number ≡ 12)
+      → (Whole → Splittable colour start ws → length batch < 8234 → number ≡ 1) → Right (split_out number 0 0 batch)
   turned_down number some e wrong nine ten twelve one =
       record {
         outcome = sym e;
@@ -85,8 +85,8 @@ module _ (each colour start : ℕ) (lent ws batch : List ℕ) where
         walked = λ z. absurd (some z);
       }
 
-  taken : answer ≡ splitDone colour start ws batch → Whole → Splittable colour start ws → 8234 ≤ length batch → Right (splitDone colour start ws batch)
-  unfolding splitBatch over
+  taken : answer ≡ split_done colour start ws batch → Whole → Splittable colour start ws → 8234 ≤ length batch → Right (split_done colour start ws batch)
+  unfolding split_batch over
   taken e whole can room =
       let c = cut_up colour start ws (pairs-even can.right.pairs) can.right.some in
       record {
@@ -100,17 +100,17 @@ module _ (each colour start : ℕ) (lent ws batch : List ℕ) where
               one = λ h s l. absurd (omega arith);
               found = λ z.
                   record {
-                    sent = splitPackets colour start ws;
+                    sent = split_packets colour start ws;
                     cut = c;
                     counted = refl;
                     size = refl;
-                    written = take-over (splitBatch colour start ws) batch;
+                    written = take-over (split_batch colour start ws) batch;
                   };
               refused = λ n. absurd (n refl);
-              behind = drop_at (splitBatch colour start ws) _ _ refl;
+              behind = drop_at (split_batch colour start ws) _ _ refl;
               long =
                   let size = (split-small colour start ws can).1 in
-                  rw length-append (omega (arith, length-drop (length (splitBatch colour start ws)) batch));
+                  rw length-append (omega (arith, length-drop (length (split_batch colour start ws)) batch));
             };
         few = split-small colour start ws can;
         walked = λ z. cut-announced c _;
@@ -119,56 +119,56 @@ module _ (each colour start : ℕ) (lent ws batch : List ℕ) where
   -- The definition's answer keeps the promise.
   kept : Right answer
   unfolding splitting
-  kept = go (odd each lent) (valuesWrong colour ws) (runsBeyond start ws) (ltb (length batch) batchRoom) refl refl refl refl
+  kept = go (odd each lent) (values_wrong colour ws) (runs_beyond start ws) (ltb (length batch) batch_room) refl refl refl refl
     where
-      go : (a b c d : Bool) → odd each lent ≡ a → valuesWrong colour ws ≡ b → runsBeyond start ws ≡ c → ltb (length batch) batchRoom ≡ d → Right answer
+      go : (a b c d : Bool) → odd each lent ≡ a → values_wrong colour ws ≡ b → runs_beyond start ws ≡ c → ltb (length batch) batch_room ≡ d → Right answer
       go true b c d p q r s =
           let no : Whole → ⊥ = both p (odd-tested each lent).1 in
-          let e : answer ≡ splitOut 9 0 0 batch = rw p in
+          let e : answer ≡ split_out 9 0 0 batch = rw p in
           subst Right (sym e)
           (turned_down 9 (λ z. omega arith) e (λ w. no w.0) (λ z. no, λ h. refl) (λ h. absurd (no h)) (λ h. absurd (no h)) (λ h. absurd (no h)))
       go false true c d p q r s =
           let whole : Whole = (odd-tested each lent).0 p in
           let no : PairsRight colour ws → ⊥ = both q (values-tested colour ws).1 in
-          let e : answer ≡ splitOut 10 0 0 batch = rw (p, q) in
+          let e : answer ≡ split_out 10 0 0 batch = rw (p, q) in
           subst Right (sym e)
           (turned_down 10 (λ z. omega arith) e (λ w. no w.1.right) (λ z. absurd (omega arith), λ h. absurd (h whole)) (λ h. (λ z. no, λ n. refl)) (λ h w. absurd (no w)) (λ h w. absurd (no w.right)))
       go false false true d p q r s =
           let whole : Whole = (odd-tested each lent).0 p in
           let right : PairsRight colour ws = (values-tested colour ws).0 q in
-          let past : 2016 < start + sumRuns ws = ltb-true _ _ r in
-          let e : answer ≡ splitOut 12 0 0 batch = rw (p, q, r) in
+          let past : 2016 < start + sum_runs ws = ltb-true _ _ r in
+          let e : answer ≡ split_out 12 0 0 batch = rw (p, q, r) in
           subst Right (sym e)
           (turned_down 12 (λ z. omega arith) e (λ w. omega (arith, w.1.within)) (λ z. absurd (omega arith), λ h. absurd (h whole)) (λ h. (λ z. absurd (omega arith), λ n. absurd (n right))) (λ h w l. refl) (λ h w l. absurd (omega (arith, w.within))))
       go false false false true p q r s =
           let whole : Whole = (odd-tested each lent).0 p in
           let can : Splittable colour start ws = record { right = (values-tested colour ws).0 q; within = ltb-false _ _ r } in
-          let short : length batch < 8234 = omega (arith, ltb-true (length batch) batchRoom s) in
-          let e : answer ≡ splitOut 1 0 0 batch = rw (p, q, r, s) in
+          let short : length batch < 8234 = omega (arith, ltb-true (length batch) batch_room s) in
+          let e : answer ≡ split_out 1 0 0 batch = rw (p, q, r, s) in
           subst Right (sym e)
           (turned_down 1 (λ z. omega arith) e (λ w. omega (arith, w.2)) (λ z. absurd (omega arith), λ h. absurd (h whole)) (λ h. (λ z. absurd (omega arith), λ n. absurd (n can.right))) (λ h w l. absurd (omega (arith, can.within))) (λ h w l. refl))
       go false false false false p q r s =
           let can : Splittable colour start ws = record { right = (values-tested colour ws).0 q; within = ltb-false _ _ r } in
-          let e : answer ≡ splitDone colour start ws batch = rw (p, q, r, s) in
-          subst Right (sym e) (taken e ((odd-tested each lent).0 p) can (omega (arith, ltb-false (length batch) batchRoom s)))
+          let e : answer ≡ split_done colour start ws batch = rw (p, q, r, s) in
+          subst Right (sym e) (taken e ((odd-tested each lent).0 p) can (omega (arith, ltb-false (length batch) batch_room s)))
 
   pub promised : {o : SplitOut} → o ≡ answer → Right o
   promised e = subst Right (sym e) kept
 
   -- Refused by the first number that applies, or split where none does, which means that all is right.
   abbrev pub number : ℕ
-  number = first (splitRefusals colour start (odd each lent) ws batch)
+  number = first (split_refusals colour start (odd each lent) ws batch)
 
-  pub judged : {status count fault : ℕ} {wrong past : Bool} → count ≡ length ws → fault ≡ pairFault ws
-      → wrong ≡ (eqb count 0 || ltb 3 colour || ltb fault count) → past ≡ runsBeyond start ws
-      → status ≡ first (refusalsOf (odd each lent) wrong past (ltb (length batch) batchRoom)) → status ≡ number
+  pub judged : {status count fault : ℕ} {wrong past : Bool} → count ≡ length ws → fault ≡ pair_fault ws
+      → wrong ≡ (eqb count 0 || ltb 3 colour || ltb fault count) → past ≡ runs_beyond start ws
+      → status ≡ first (refusals_of (odd each lent) wrong past (ltb (length batch) batch_room)) → status ≡ number
   judged c f w p s = s ∙ rw (w, c, f, p)
 
-  pub refuses : {status : ℕ} → status ≡ number → (status ≡ 0 → ⊥) → Right (splitOut status 0 0 batch)
+  pub refuses : {status : ℕ} → status ≡ number → (status ≡ 0 → ⊥) → Right (split_out status 0 0 batch)
   unfolding splitting
   refuses {status} e h = promised (rw (← e, ne_eqb status 0 h))
 
-  pub splits : {o : SplitOut} → number ≡ 0 → o ≡ splitDone colour start ws batch → Right o
+  pub splits : {o : SplitOut} → number ≡ 0 → o ≡ split_done colour start ws batch → Right o
   unfolding splitting
   splits e f = promised (f ∙ rw e)
 

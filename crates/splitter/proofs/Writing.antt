@@ -7,27 +7,27 @@ use lib.ListN.{length, take, drop, length-take, length-drop, length-append, take
 use lib.Seq.{drop-drop, sets, length-sets}
 use Rattle.wire.proofs.Laws.{sets-append}
 use Rattle.packet.proofs.Stores.{sets_over}
-use Rattle.gain_words.specs.Pairs.{sumRuns}
+use Rattle.gain_words.specs.Pairs.{sum_runs}
 use Rattle.gain_words.proofs.Right.{pairs-even}
 use Rattle.gain_words.proofs.Expand.{sum-append}
 use Rattle.upload.specs.Plan.{joined}
-use Rattle.batch.specs.Pairs.{pairsPacket}
+use Rattle.batch.specs.Pairs.{pairs_packet}
 use Rattle.batch.specs.Writing.{PairsPut}
-use Rattle.splitter.specs.Split.{packetWords, splitFrom, splitPackets, splitBatch}
+use Rattle.splitter.specs.Split.{packet_words, split_from, split_packets, split_batch}
 use Rattle.splitter.specs.Plain.{Splittable}
-use Rattle.splitter.specs.Splitting.{splitOut}
-use Rattle.splitter.specs.Internal.{splitDone}
+use Rattle.splitter.specs.Splitting.{split_out}
+use Rattle.splitter.specs.Internal.{split_done}
 use Rattle.splitter.proofs.Cutting.{split-next, split-small, pairs-long}
 
 module _ (colour start : ℕ) (ws batch₀ : List ℕ) where
   -- The packets that words from a start on give.
   abbrev rest : ℕ → List ℕ → List (List ℕ)
-  rest at l = splitPackets colour at l
+  rest at l = split_packets colour at l
 
   pub record Cutting (at packets bytes i : ℕ) (batch : List ℕ) : Type 0 where
     pub within : i ≤ length ws
     pub even : length (drop i ws) % 2 ≡ 0
-    pub runs-left : at + sumRuns (drop i ws) ≡ start + sumRuns ws
+    pub runs-left : at + sum_runs (drop i ws) ≡ start + sum_runs ws
     pub packets-left : packets + length (rest at (drop i ws)) ≡ length (rest start ws)
     pub bytes_left : bytes + length (joined (rest at (drop i ws))) ≡ length (joined (rest start ws))
     pub batch-left : sets batch bytes (joined (rest at (drop i ws))) ≡ sets batch₀ 0 (joined (rest start ws))
@@ -40,7 +40,7 @@ module _ (colour start : ℕ) (ws batch₀ : List ℕ) where
     pub colour-fits : colour < 256
     pub start_fits : at < 65536
     pub within : i + n ≤ length ws
-    pub runs_fit : at + sumRuns (take n (drop i ws)) ≤ 2016
+    pub runs_fit : at + sum_runs (take n (drop i ws)) ≤ 2016
     pub few : packets ≤ 17
 
   module _ (can : Splittable colour start ws) (room : 8234 ≤ length batch₀) where
@@ -57,8 +57,8 @@ module _ (colour start : ℕ) (ws batch₀ : List ℕ) where
         }
 
     module _ {at packets bytes i : ℕ} {batch : List ℕ} (c : Cutting at packets bytes i batch) where
-      pub ended : length ws ≤ i → splitOut 0 packets bytes batch ≡ splitDone colour start ws batch₀
-      unfolding splitFrom joined splitBatch
+      pub ended : length ws ≤ i → split_out 0 packets bytes batch ≡ split_done colour start ws batch₀
+      unfolding split_from joined split_batch
       ended h =
           let none : drop i ws ≡ [] = drop_of_length-le ws {i = i} h in
           let all : packets ≡ length (rest start ws) = omega (arith, rw none at c.packets-left) in
@@ -67,7 +67,7 @@ module _ (colour start : ℕ) (ws batch₀ : List ℕ) where
           rw (all, size, left, sets_over (joined (rest start ws)) batch₀ (omega (arith, (split-small colour start ws can).1)))
 
       -- The next packet, of n words.
-      module _ {n count : ℕ} (whole : count ≡ length ws) (inside : i < count) (e : n ≡ min packetWords (count - i)) where
+      module _ {n count : ℕ} (whole : count ≡ length ws) (inside : i < count) (e : n ≡ min packet_words (count - i)) where
         abbrev l : List ℕ
         l = drop i ws
 
@@ -81,21 +81,21 @@ module _ (colour start : ℕ) (ws batch₀ : List ℕ) where
         part-size = rw length-take (omega (arith, left-long))
 
         -- Its runs, and those left behind it.
-        pub sums : sumRuns l ≡ sumRuns (take n l) + sumRuns (drop n l)
+        pub sums : sum_runs l ≡ sum_runs (take n l) + sum_runs (drop n l)
         sums =
             rw take-append-drop at (sum-append (take n l) (drop n l) (omega (arith, part-size, c.even, left-long)))
 
-        step : rest at l ≡ pairsPacket colour at (take n l) ∷ rest (at + sumRuns (take n l)) (drop n l)
+        step : rest at l ≡ pairs_packet colour at (take n l) ∷ rest (at + sum_runs (take n l)) (drop n l)
         step = split-next colour at l n some (omega (arith, left-long))
 
-        size : length (joined (rest at l)) ≡ 10 + 2 * n + length (joined (rest (at + sumRuns (take n l)) (drop n l)))
+        size : length (joined (rest at l)) ≡ 10 + 2 * n + length (joined (rest (at + sum_runs (take n l)) (drop n l)))
         unfolding joined
         size =
-            rw (step, length-append (pairsPacket colour at (take n l)), pairs-long colour at (take n l), part-size)
+            rw (step, length-append (pairs_packet colour at (take n l)), pairs-long colour at (take n l), part-size)
 
         -- It lies in the words, its numbers fit, it has room, and its runs end within the colour.
         pub placed : NextFits at packets bytes i n batch
-        unfolding splitBatch
+        unfolding split_batch
         placed =
             let small = split-small colour start ws can in
             record {
@@ -108,12 +108,12 @@ module _ (colour start : ℕ) (ws batch₀ : List ℕ) where
               few = omega (arith, c.packets-left, small.0);
             }
 
-        pub turned : {sum bytes' : ℕ} {batch' : List ℕ} → PairsPut batch bytes ws i n colour at bytes' batch' → sum ≡ sumRuns (take n l)
+        pub turned : {sum bytes' : ℕ} {batch' : List ℕ} → PairsPut batch bytes ws i n colour at bytes' batch' → sum ≡ sum_runs (take n l)
             → Cutting (at + sum) (packets + 1) bytes' (i + n) batch'
         unfolding joined
         turned {sum} {bytes'} {batch'} put s =
-            let p : List ℕ = pairsPacket colour at (take n l) in
-            let behind : List (List ℕ) = rest (at + sumRuns (take n l)) (drop n l) in
+            let p : List ℕ = pairs_packet colour at (take n l) in
+            let behind : List (List ℕ) = rest (at + sum_runs (take n l)) (drop n l) in
             let next : drop (i + n) ws ≡ drop n l = sym (drop-drop n i ws) in
             let left : sets batch bytes (p ++ joined behind) ≡ sets batch₀ 0 (joined (rest start ws)) = rw step at c.batch-left in
             let place : bytes' ≡ bytes + length p = put.0 ∙ rw (pairs-long colour at (take n l), part-size) in

@@ -3,10 +3,10 @@
 -- (proofs/Determined).
 use Rattle.std.specs.Prelude.{ℕ, ◌+◌, ◌%◌, ◌≤◌, ◌<◌, ◌≡◌, ◌↔◌, List, [], ◌∷◌, ◌++◌, length, take, drop}
 use Rattle.wire.specs.Tables.{words}
-use Rattle.gain_words.specs.Pairs.{sumRuns}
+use Rattle.gain_words.specs.Pairs.{sum_runs}
 use Rattle.gain_words.specs.Plain.{Pairs}
 use Rattle.upload.specs.Plan.{joined}
-use Rattle.batch.specs.Pairs.{pairsPacket}
+use Rattle.batch.specs.Pairs.{pairs_packet}
 
 -- A status, how many packets there are and how many bytes they have, and the batch as it is left.
 pub record SplitOut : Type 0 where
@@ -18,9 +18,9 @@ pub record SplitOut : Type 0 where
 -- Rule 10.3: full packets, of 250 words, and then one of the rest, each going on behind the gains
 -- of the last.
 pub data CutUp (colour : ℕ) : ℕ → List ℕ → List (List ℕ) → Type 0 where
-  last : {start : ℕ} {ws : List ℕ} → 1 ≤ length ws → length ws ≤ 250 → CutUp colour start ws (pairsPacket colour start ws ∷ [])
+  last : {start : ℕ} {ws : List ℕ} → 1 ≤ length ws → length ws ≤ 250 → CutUp colour start ws (pairs_packet colour start ws ∷ [])
   more : {start : ℕ} (ws rest : List ℕ) {ps : List (List ℕ)} → length ws ≡ 250 → 1 ≤ length rest
-      → CutUp colour (start + sumRuns ws) rest ps → CutUp colour start (ws ++ rest) (pairsPacket colour start ws ∷ ps)
+      → CutUp colour (start + sum_runs ws) rest ps → CutUp colour start (ws ++ rest) (pairs_packet colour start ws ∷ ps)
 
 -- Rule 10.4: pairs, one or more, that 2Bh takes, and a colour 0-3.
 pub record PairsRight (colour : ℕ) (ws : List ℕ) : Type 0 where
@@ -31,7 +31,7 @@ pub record PairsRight (colour : ℕ) (ws : List ℕ) : Type 0 where
 -- Rule 10.4: what can be split: such pairs, whose runs end within the colour.
 pub record Splittable (colour start : ℕ) (ws : List ℕ) : Type 0 where
   pub right : PairsRight colour ws
-  pub within : start + sumRuns ws ≤ 2016
+  pub within : start + sum_runs ws ≤ 2016
 
 -- Rules 10.3 and 10.4: some packets of the pairs, one behind the other from the start of the
 -- batch on; so many are they, and so many bytes they have.
@@ -50,7 +50,7 @@ pub record SplitPlain (each colour start : ℕ) (lent ws batch : List ℕ) (o : 
   pub exactly : (o.status ≡ 0) ↔ ((length lent % each ≡ 0) × Splittable colour start ws × (8234 ≤ length batch))
   pub nine : (o.status ≡ 9) ↔ (length lent % each ≡ 0 → ⊥)
   pub ten : length lent % each ≡ 0 → (o.status ≡ 10) ↔ (PairsRight colour ws → ⊥)
-  pub twelve : length lent % each ≡ 0 → PairsRight colour ws → 2016 < start + sumRuns ws → o.status ≡ 12
+  pub twelve : length lent % each ≡ 0 → PairsRight colour ws → 2016 < start + sum_runs ws → o.status ≡ 12
   pub one : length lent % each ≡ 0 → Splittable colour start ws → length batch < 8234 → o.status ≡ 1
   pub found : o.status ≡ 0 → PacketsWritten colour start ws o
   -- A refusal has no packets and changes nothing; behind the packets the batch is as it was.

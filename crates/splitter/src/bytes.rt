@@ -1,18 +1,18 @@
 // Pairs as their bytes, low byte first.
 ghost use Rattle.std.specs.Prelude.{◌≡◌, ◌+◌, ◌*◌, ◌%◌, ◌≤◌, length, take, drop};
 ghost use Rattle.wire.specs.Tables.{words};
-ghost use Rattle.gain_words.specs.Pairs.{colourGains, sumRuns};
+ghost use Rattle.gain_words.specs.Pairs.{colour_gains, sum_runs};
 ghost use Rattle.splitter.specs.Plain.{Splittable};
-ghost use Rattle.splitter.specs.Splitting.{batchRoom, splitOut, SplitBytes};
-ghost use Rattle.splitter.specs.Internal.{splitDone};
+ghost use Rattle.splitter.specs.Splitting.{batch_room, split_out, SplitBytes};
+ghost use Rattle.splitter.specs.Internal.{split_done};
 
 use super::{BATCH_ROOM, Split};
 
 // The sum of the runs of n words from a place on.
 fn runs_sum(pairs: &[u8], from: usize, n: usize) -> usize
     requires { (2 * (from + n) ≤ length pairs.now)
-        × (sumRuns (take n (drop from (words pairs.now))) ≤ colourGains) }
-    ensures { result ≡ sumRuns (take n (drop from (words pairs.now))) }
+        × (sum_runs (take n (drop from (words pairs.now))) ≤ colour_gains) }
+    ensures { result ≡ sum_runs (take n (drop from (words pairs.now))) }
 {
     let mut sum = 0;
     let mut k = 0;
@@ -27,10 +27,10 @@ fn runs_sum(pairs: &[u8], from: usize, n: usize) -> usize
 // Writes the packets, one a turn: each starts where the runs of the one before ended.
 fn write(colour: usize, start: usize, pairs: &[u8], batch: &mut [u8]) -> Split
     requires { Splittable colour start (words pairs.now)
-        × (batchRoom ≤ length batch.old)
+        × (batch_room ≤ length batch.old)
         × (length pairs.now % 4 ≡ 0) }
-    ensures { splitOut result.status result.packets result.bytes batch.new
-        ≡ splitDone colour start (words pairs.now) batch.old }
+    ensures { split_out result.status result.packets result.bytes batch.new
+        ≡ split_done colour start (words pairs.now) batch.old }
 {
     let count = pairs.len() / 2;
     let mut at = start;

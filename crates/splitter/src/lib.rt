@@ -1,11 +1,13 @@
 // The splitter: pairs of a run and a gain into 2Bh packets. Two families of the same names: pairs as 16-bit numbers, and as their bytes.
+#![tactic(auto)]
+
 pub mod bytes;
 pub mod numbers;
 
 ghost use Rattle.std.specs.Prelude.{◌≡◌, ◌||◌, min, eqb, ltb};
 ghost use Rattle.wire.specs.First.{first};
-ghost use Rattle.splitter.specs.Split.{packetWords};
-ghost use Rattle.splitter.specs.Internal.{refusalsOf};
+ghost use Rattle.splitter.specs.Split.{packet_words};
+ghost use Rattle.splitter.specs.Internal.{refusals_of};
 
 // The words of a packet that is not the last.
 pub const PACKET_WORDS: usize = 250;
@@ -30,7 +32,7 @@ fn values_wrong(colour: u32, words: usize, fault: usize) -> bool
 
 // The number of the first refusal that applies, 0 for none.
 fn refusal(odd: bool, wrong: bool, past: bool, short: bool) -> u8
-    ensures { result ≡ first (refusalsOf odd wrong past short) }
+    ensures { result ≡ first (refusals_of odd wrong past short) }
 {
     if odd {
         return 9;
@@ -49,7 +51,7 @@ fn refusal(odd: bool, wrong: bool, past: bool, short: bool) -> u8
 
 // The words of the next packet, where so many are left.
 fn next_words(left: usize) -> usize
-    ensures { result ≡ min packetWords left }
+    ensures { result ≡ min packet_words left }
 {
     if left < PACKET_WORDS {
         left

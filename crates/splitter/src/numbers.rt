@@ -1,16 +1,16 @@
 // Pairs as 16-bit numbers.
 ghost use Rattle.std.specs.Prelude.{◌≡◌, ◌+◌, ◌≤◌, length, take, drop};
-ghost use Rattle.gain_words.specs.Pairs.{colourGains, sumRuns};
+ghost use Rattle.gain_words.specs.Pairs.{colour_gains, sum_runs};
 ghost use Rattle.splitter.specs.Plain.{Splittable};
-ghost use Rattle.splitter.specs.Splitting.{batchRoom, splitOut, SplitNumbers};
-ghost use Rattle.splitter.specs.Internal.{splitDone};
+ghost use Rattle.splitter.specs.Splitting.{batch_room, split_out, SplitNumbers};
+ghost use Rattle.splitter.specs.Internal.{split_done};
 
 use super::{BATCH_ROOM, Split};
 
 // The sum of the runs of n words from a place on.
 fn runs_sum(pairs: &[u16], from: usize, n: usize) -> usize
-    requires { (from + n ≤ length pairs.now) × (sumRuns (take n (drop from pairs.now)) ≤ colourGains) }
-    ensures { result ≡ sumRuns (take n (drop from pairs.now)) }
+    requires { (from + n ≤ length pairs.now) × (sum_runs (take n (drop from pairs.now)) ≤ colour_gains) }
+    ensures { result ≡ sum_runs (take n (drop from pairs.now)) }
 {
     let mut sum = 0;
     let mut k = 0;
@@ -23,9 +23,9 @@ fn runs_sum(pairs: &[u16], from: usize, n: usize) -> usize
 
 // Writes the packets, one a turn: each starts where the runs of the one before ended.
 fn write(colour: usize, start: usize, pairs: &[u16], batch: &mut [u8]) -> Split
-    requires { Splittable colour start pairs.now × (batchRoom ≤ length batch.old) }
-    ensures { splitOut result.status result.packets result.bytes batch.new
-        ≡ splitDone colour start pairs.now batch.old }
+    requires { Splittable colour start pairs.now × (batch_room ≤ length batch.old) }
+    ensures { split_out result.status result.packets result.bytes batch.new
+        ≡ split_done colour start pairs.now batch.old }
 {
     let mut at = start;
     let mut packets = 0;

@@ -9,7 +9,7 @@ use lib.Seq.{sets, sets-eq, drop-drop, length-take-le}
 use Rattle.wire.specs.Tables.{bytes}
 use Rattle.wire.proofs.Laws.{sets-append}
 use Rattle.wire.proofs.Tables.{length-halves, halves-append}
-use Rattle.gain_words.specs.Pairs.{expand, sumRuns}
+use Rattle.gain_words.specs.Pairs.{expand, sum_runs}
 use Rattle.gain_words.proofs.Walk.{pair_turn, sum-turn}
 
 -- n elements from a place on.
@@ -40,7 +40,7 @@ module _ (ws table : List ℕ) (i place : ℕ) {run gain : ℕ} (h : i + 1 < len
       omega (arith, length-halves 256 (replicate run gain), length-replicate run gain) in
       rw (expand-turn, halves-append) (rw next at behind)
 
-pub runs-left : (ws : List ℕ) (i : ℕ) {run : ℕ} → i + 1 < length ws → run ≡ get_or ws i 0 → sumRuns (drop i ws) ≡ run + sumRuns (drop (i + 2) ws)
+pub runs-left : (ws : List ℕ) (i : ℕ) {run : ℕ} → i + 1 < length ws → run ≡ get_or ws i 0 → sum_runs (drop i ws) ≡ run + sum_runs (drop (i + 2) ws)
 runs-left ws i h r = rw r (sum-turn ws i h)
 
 -- No pair is left.

@@ -1,9 +1,11 @@
 // Tables of 16-bit numbers: filled from a packet's bytes, turned into a reply's bytes, copied whole, and reset. Two families: tables lent as
 // numbers, and tables lent as their bytes.
+#![tactic(auto)]
+
 ghost use Rattle.std.specs.Prelude.{◌≡◌, ◌+◌, ◌*◌, ◌/◌, ◌%◌, ◌≤◌, ◌<◌, length, take, drop, replicate};
 ghost use Rattle.std.proofs.Math.Seq.{paste};
 ghost use Rattle.std.proofs.lemmas.List.Edits.{sets};
-ghost use Rattle.gain_words.specs.Pairs.{expand, sumRuns};
+ghost use Rattle.gain_words.specs.Pairs.{expand, sum_runs};
 ghost use Rattle.wire.specs.Tables.{words, bytes};
 ghost use Rattle.wire.specs.Buffers.{over};
 
@@ -78,7 +80,7 @@ fn fill_part(table: &mut [u16], at: usize, n: usize, v: u16)
 
 // What pairs of a run and a gain stand for, out of src's bytes from a place on, into the table from a place on.
 pub fn runs_in(table: &mut [u16], at: usize, src: &[u8], from: usize)
-    requires { (at + sumRuns (words (drop from src.now)) ≤ length table.old) × (from ≤ 65536) }
+    requires { (at + sum_runs (words (drop from src.now)) ≤ length table.old) × (from ≤ 65536) }
     ensures { table.new ≡ sets table.old at (expand (words (drop from src.now))) }
 {
     let mut place = at;
@@ -103,7 +105,7 @@ fn fill_part_bytes(table: &mut [u8], at: usize, n: usize, v: usize)
 
 // The same into the bytes of a table.
 pub fn runs_in_bytes(table: &mut [u8], at: usize, src: &[u8], from: usize)
-    requires { (2 * (at + sumRuns (words (drop from src.now))) ≤ length table.old) × (from ≤ 65536) }
+    requires { (2 * (at + sum_runs (words (drop from src.now))) ≤ length table.old) × (from ≤ 65536) }
     ensures { table.new ≡ sets table.old (2 * at) (bytes (expand (words (drop from
         src.now)))) }
 {

@@ -1,5 +1,7 @@
 // What no session file can say: gains that no packet can have stored, lists that are lent a number short, a setting out of range. On the front
 // end's entries on 16-bit tables; each step prints what it answered.
+#![tactic(auto)]
+
 ghost use Rattle.std.specs.Prelude.{◌≤◌, ◌<◌, ◌≡◌, length, take};
 
 use front_end::{GAINS_SIZE, MAP_SIZE, REPLY_ROOM};

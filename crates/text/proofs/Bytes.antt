@@ -20,10 +20,10 @@ hex-append [] t = refl
 hex-append (a ∷ s) t = ap (λ (r : List ℕ). blank ∷ digit (a / 16) ∷ digit (a % 16) ∷ r) (hex-append s t)
 
 -- The text of a byte.
-abbrev pub inHex : ℕ → List ℕ
-inHex b = blank ∷ digit (b / 16) ∷ digit (b % 16) ∷ []
+abbrev pub in_hex : ℕ → List ℕ
+in_hex b = blank ∷ digit (b / 16) ∷ digit (b % 16) ∷ []
 
-hex-turn : (bs : List ℕ) (i : ℕ) → i < length bs → hex (take (i + 1) bs) ≡ hex (take i bs) ++ inHex (get_or bs i 0)
+hex-turn : (bs : List ℕ) (i : ℕ) → i < length bs → hex (take (i + 1) bs) ≡ hex (take i bs) ++ in_hex (get_or bs i 0)
 unfolding hex
 hex-turn bs i h = rw (add-one, take-suc bs i 0, hex-append)
 
@@ -44,7 +44,7 @@ module _ {out₀ : List ℕ} {at : ℕ} {bytes : List ℕ} {n : ℕ} {out : List
   long : i ≤ length bytes → length (hex (take i bytes)) ≡ 3 * i
   long h = length-hex (take i bytes) ∙ ap (◌*◌ 3) (length-take-le i bytes h)
 
-  pub write-turn : n ≤ length bytes → i < n → Writing out₀ at bytes n (sets out end (inHex (get_or bytes i 0))) (end + 3) (i + 1)
+  pub write-turn : n ≤ length bytes → i < n → Writing out₀ at bytes n (sets out end (in_hex (get_or bytes i 0))) (end + 3) (i + 1)
   write-turn hb h =
       let e : at + length (hex (take i bytes)) ≡ end = omega (arith, long (omega arith), r.ends) in
       record {
@@ -52,7 +52,7 @@ module _ {out₀ : List ℕ} {at : ℕ} {bytes : List ℕ} {n : ℕ} {out : List
         ends = omega (arith, r.ends);
         written =
             rw (r.written, hex-turn bytes i (omega arith))
-            (rw e at (sets-append out₀ at (hex (take i bytes)) (inHex (get_or bytes i 0))));
+            (rw e at (sets-append out₀ at (hex (take i bytes)) (in_hex (get_or bytes i 0))));
       }
 
   pub write_done : n ≤ length bytes → n ≤ i

@@ -18,11 +18,11 @@ digits zero n = []
 digits (suc k) n = cond (ltb n 10) (digit n ∷ []) (digits k (n / 10) ++ (digit (n % 10) ∷ []))
 
 -- A number of 64 bits has at most so many digits.
-abbrev pub mostDigits : ℕ
-mostDigits = 20
+abbrev pub most_digits : ℕ
+most_digits = 20
 
 abbrev pub decimal : ℕ → List ℕ
-decimal n = digits mostDigits n
+decimal n = digits most_digits n
 
 -- Rule 9.2: bytes in hex, a blank before each.
 unfoldable pub hex : List ℕ → List ℕ

@@ -1,15 +1,17 @@
 // Text in a lent buffer: each function puts its text at a place and answers where it ends.
+#![tactic(auto)]
+
 ghost use Rattle.std.specs.Prelude.{◌+◌, ◌*◌, ◌/◌, ◌%◌, ◌≤◌, ◌<◌, ◌≡◌, [], ◌∷◌, length, take};
 ghost use Rattle.std.proofs.lemmas.List.Edits.{sets};
-ghost use Rattle.text.specs.Text.{blank, decimal, digit as digitOf, hex as hexOf, mostDigits, Puts};
+ghost use Rattle.text.specs.Text.{blank, decimal, digit as digitOf, hex as hexOf, most_digits, Puts};
 ghost use Rattle.text.specs.Plain.{Decimal, Hex};
 
 use wire::copy;
 
 // A number in decimal, rule 9.2.
 pub fn put_number(out: &mut [u8], at: usize, n: u64) -> usize
-    requires { at + mostDigits ≤ length out.old }
-    ensures { Puts at (decimal n) out.old out.new result × (result ≤ at + mostDigits) × Decimal n (decimal n) }
+    requires { at + most_digits ≤ length out.old }
+    ensures { Puts at (decimal n) out.old out.new result × (result ≤ at + most_digits) × Decimal n (decimal n) }
 {
     let k = count(n);
     store(out, at, n, k);

@@ -8,17 +8,17 @@ use lib.Seq.{get_or-drop}
 use lib.Dec.{lit<}
 use Rattle.wire.specs.Tables.{bytes}
 use Rattle.wire.proofs.Tables.{length-halves, halves-below}
-use Rattle.packet.specs.Making.{packetOf}
-use Rattle.upload.specs.Plan.{Part, packetFor, packetsOf, joined, batchOf}
+use Rattle.packet.specs.Making.{packet_of}
+use Rattle.upload.specs.Plan.{Part, packet_for, packets_of, joined, batch_of}
 use Rattle.upload.specs.Judge.{MapOf}
 use Rattle.upload.specs.Parts.{Fits, InOrder, none, next}
 use Rattle.upload.proofs.Lists.{plan-in-order}
 
 pub packet-form : (n : ℕ) (wanted : List ℕ) (p : Part) → length wanted ≡ 2 * n → Fits n p
-    → packetFor wanted p
+    → packet_for wanted p
     ≡ 0x14 ∷ 0x34 ∷ (2 + 4 * p.count) % 256 ∷ (2 + 4 * p.count) / 256 ∷ p.start % 256 ∷ p.start / 256
     ∷ bytes (take (2 * p.count) (drop (2 * p.start) wanted))
-unfolding packetFor packetOf
+unfolding packet_for packet_of
 packet-form n wanted p e f =
     let pts : List ℕ = take (2 * p.count) (drop (2 * p.start) wanted) in
     let wide : length pts ≡ 2 * p.count = simp (length-take, length-drop) (omega arith) in
@@ -49,7 +49,7 @@ below-form s c l h i g (suc (suc (suc (suc (suc (suc k)))))) = g k
 
 -- Up to 65,536 points, of which rule 6.1 takes 1,984.
 module _ (n : ℕ) (small : n ≤ 65536) (wanted : List ℕ) (w : MapOf n wanted) where
-  pub packet-bytes : (p : Part) → Fits n p → (k : ℕ) → get_or (packetFor wanted p) k 0 < 256
+  pub packet-bytes : (p : Part) → Fits n p → (k : ℕ) → get_or (packet_for wanted p) k 0 < 256
   packet-bytes p f =
       let pts : List ℕ = take (2 * p.count) (drop (2 * p.start) wanted) in
       let points : (k : ℕ) → get_or (bytes pts) k 0 < 256 =
@@ -57,11 +57,11 @@ module _ (n : ℕ) (small : n ≤ 65536) (wanted : List ℕ) (w : MapOf n wanted
       rw (packet-form n wanted p w.long f)
       (below-form p.start p.count (bytes pts) (omega arith) f.few points)
 
-  parts-bytes : {i : ℕ} {ps : List Part} → InOrder n i ps → (k : ℕ) → get_or (joined (map (packetFor wanted) ps)) k 0 < 256
+  parts-bytes : {i : ℕ} {ps : List Part} → InOrder n i ps → (k : ℕ) → get_or (joined (map (packet_for wanted) ps)) k 0 < 256
   unfolding joined
   parts-bytes none k = lit< tt
-  parts-bytes (next {p = p} {ps = ps} l f r) k = below-append (packetFor wanted p) (joined (map (packetFor wanted) ps)) (packet-bytes p f) (λ j. parts-bytes r j) k
+  parts-bytes (next {p = p} {ps = ps} l f r) k = below-append (packet_for wanted p) (joined (map (packet_for wanted) ps)) (packet-bytes p f) (λ j. parts-bytes r j) k
 
-  pub batch-bytes : (held : List ℕ) → MapOf n held → (k : ℕ) → get_or (batchOf held wanted) k 0 < 256
-  unfolding batchOf packetsOf
+  pub batch-bytes : (held : List ℕ) → MapOf n held → (k : ℕ) → get_or (batch_of held wanted) k 0 < 256
+  unfolding batch_of packets_of
   batch-bytes held h k = parts-bytes (plan-in-order n held wanted h.long w.long) k

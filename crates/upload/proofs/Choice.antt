@@ -10,10 +10,10 @@ use native.Mathlib.Nat.{add-zero}
 use native.Mathlib.Omega.{arith}
 use lib.ListN.{length, take, drop, get_or, replicate, length-append, length-take, length-replicate, get_or-replicate, get_or-append}
 use lib.Seq.{drop-drop, drop_at, get_or-take, get_or-drop}
-use Rattle.packet.specs.Points.{mapAfter}
+use Rattle.packet.specs.Points.{map_after}
 use Rattle.upload.specs.Cost.{differs}
-use Rattle.upload.specs.Plan.{Part, plan_of, cost, packetFor, packetsOf}
-use Rattle.upload.specs.Judge.{mapsAfter, Turns, MapOf}
+use Rattle.upload.specs.Plan.{Part, plan_of, cost, packet_for, packets_of}
+use Rattle.upload.specs.Judge.{maps_after, Turns, MapOf}
 use Rattle.upload.specs.Parts.{part, InOrder, none, next, counts, Less, here, later, Uploads, Chosen}
 use Rattle.upload.proofs.Covers.{Covers, done, inside, skip, begin, First, first, in-order-from, covers-least}
 use Rattle.upload.proofs.Differs.{differs-long, differs-self}
@@ -21,14 +21,14 @@ use Rattle.upload.proofs.Lists.{part-after, demand3, plan-in-order, plan-cost}
 
 -- Points before all parts stay as they are.
 untouched : (n : ℕ) (w : List ℕ) → length w ≡ 2 * n → {i : ℕ} {ps : List Part} → InOrder n i ps → (m : List ℕ) → length m ≡ 2 * n → (j : ℕ) → j < i
-    → get_or (differs (mapsAfter n (map (packetFor w) ps) m) w) j false ≡ get_or (differs m w) j false
-unfolding mapsAfter
+    → get_or (differs (maps_after n (map (packet_for w) ps) m) w) j false ≡ get_or (differs m w) j false
+unfolding maps_after
 untouched n w wide none m long j h = refl
 untouched n w wide (next {p = p} {ps = ps} l f r) m long j h =
     let a = part-after n w m p wide long f in
     let all = differs-long n m w long wide in
     let before : j < length (take p.start (differs m w)) = rw length-take (omega (arith, f.within, f.some)) in
-    untouched n w wide r (mapAfter n (packetFor w p) m) a.long j (omega arith)
+    untouched n w wide r (map_after n (packet_for w p) m) a.long j (omega arith)
     ∙ ap (λ (l : List Bool). get_or l j false) a.differ
     ∙ get_or-append (take p.start (differs m w)) (replicate p.count false ++ drop (p.start + p.count) (differs m w)) false j before
     ∙ get_or-take p.start (differs m w) j false (omega arith)
@@ -47,7 +47,7 @@ behind-part s c all h =
 module _ (n : ℕ) (w : List ℕ) (wide : length w ≡ 2 * n) where
   -- A point before all parts does not differ.
   same_point : (i : ℕ) {d : Bool} {ds : List Bool} {ps : List Part} (m : List ℕ) → length m ≡ 2 * n → i < n → InOrder n (suc i) ps
-      → drop i (differs m w) ≡ d ∷ ds → Turns n m w (map (packetFor w) ps) → d ≡ false
+      → drop i (differs m w) ≡ d ∷ ds → Turns n m w (map (packet_for w) ps) → d ≡ false
   same_point i {d} {ds} {ps} m long l r h t =
       sym (ap (λ (l : List Bool). get_or l 0 false) h)
       ∙ get_or-drop i (differs m w) 0 false
@@ -58,8 +58,8 @@ module _ (n : ℕ) (w : List ℕ) (wide : length w ≡ 2 * n) where
       ∙ get_or-replicate n i false false l
 
   turns-cover : (ds : List Bool) (i k : ℕ) (ps : List Part) (m : List ℕ) → length m ≡ 2 * n → i + length ds ≡ n → i + k ≤ n
-      → InOrder n (i + k) ps → drop (i + k) (differs m w) ≡ drop k ds → Turns n m w (map (packetFor w) ps) → Covers i k ds ps
-  unfolding mapsAfter
+      → InOrder n (i + k) ps → drop (i + k) (differs m w) ≡ drop k ds → Turns n m w (map (packet_for w) ps) → Covers i k ds ps
+  unfolding maps_after
   turns-cover [] i zero [] m long e l none h t = done
   turns-cover [] i zero (p ∷ ps) m long e l (next b f r) h t = absurd (omega arith)
   turns-cover [] i (suc k) ps m long e l r h t = absurd (omega arith)
@@ -74,7 +74,7 @@ module _ (n : ℕ) (w : List ℕ) (wide : length w ≡ 2 * n) where
       elim (ℕ_discrete p.start i) [
         | yes s ↦
             let c : ℕ = p.count - 1 in
-            let m' : List ℕ = mapAfter n (packetFor w p) m in
+            let m' : List ℕ = map_after n (packet_for w p) m in
             let after = part-after n w m p wide long f in
             let all = differs-long n m w long wide in
             let count : p.count ≡ suc c = omega (arith, f.some) in
@@ -113,7 +113,7 @@ module _ (n : ℕ) (held wanted : List ℕ) (h : MapOf n held) (w : MapOf n want
   plan-first ps u h = first (uploads-cover u) h
 
   pub plan-chosen : Chosen n held wanted (plan_of held wanted)
-  unfolding packetsOf
+  unfolding packets_of
   plan-chosen =
       record {
         uploads = record { in_order = plan-in-order n held wanted h.long w.long; turns = (demand3 n held wanted h w).turns };

@@ -9,7 +9,7 @@ use borrow.Author.Tests.{leb-true, leb-false, ltb-true, ltb-false}
 use lib.ListN.{length}
 use lib.Dec.{leb, ltb}
 use Rattle.upload.specs.Cost.{best, rooms, more, choice}
-use Rattle.upload.specs.Internal.{CostBehind, costs, atEnd, passed, opened, atPoint, Bounded}
+use Rattle.upload.specs.Internal.{CostBehind, costs, at_end, passed, opened, at_point, Bounded}
 use Rattle.upload.proofs.Best.{best-end, best-bound}
 
 -- What the open packet takes more costs as little as k points could, and nothing smaller does.
@@ -213,12 +213,12 @@ module _ {ds : List Bool} {p : CostBehind} (t : Tells ds p) where
           (λ k l r. omega arith))
 
 -- What is carried at the first of the points.
-unfoldable pub carriedFrom : List Bool → CostBehind
-carriedFrom [] = atEnd
-carriedFrom (d ∷ ds) = atPoint d (carriedFrom ds)
+unfoldable pub carried_from : List Bool → CostBehind
+carried_from [] = at_end
+carried_from (d ∷ ds) = at_point d (carried_from ds)
 
-tells : (ds : List Bool) → Tells ds (carriedFrom ds)
-unfolding carriedFrom
+tells : (ds : List Bool) → Tells ds (carried_from ds)
+unfolding carried_from
 tells [] = tells-end
 tells (false ∷ ds) = tells-pass (tells ds)
 tells (true ∷ ds) = (tells-open (tells ds)).0
@@ -228,15 +228,15 @@ same-carried e f g h = cc (e, f, g, h)
 
 -- What the code's loop asks of the numbers at a point: the least bytes from there on, the choice at one that differs, and that all of
 -- them are small.
-pub carried-least : (ds : List Bool) → (carriedFrom ds).least ≡ best 0 (rooms ds)
+pub carried-least : (ds : List Bool) → (carried_from ds).least ≡ best 0 (rooms ds)
 carried-least ds = sym (tells-least (tells ds))
 
-pub carried-choice : (d : Bool) (ds : List Bool) → cond d (carriedFrom (d ∷ ds)).six 0 ≡ choice d (rooms ds)
-unfolding carriedFrom
+pub carried-choice : (d : Bool) (ds : List Bool) → cond d (carried_from (d ∷ ds)).six 0 ≡ choice d (rooms ds)
+unfolding carried_from
 carried-choice false ds = refl
 carried-choice true ds = sym (tells-open (tells ds)).1
 
-pub carried-small : (ds : List Bool) → length ds ≤ 1984 → Bounded (carriedFrom ds)
+pub carried-small : (ds : List Bool) → length ds ≤ 1984 → Bounded (carried_from ds)
 carried-small ds h =
     let t = tells ds in
     record {

@@ -10,7 +10,7 @@ use borrow.Author.Tests.{leb-true, leb-false, le-leb}
 use lib.ListN.{length}
 use lib.Dec.{leb}
 use Rattle.upload.specs.Cost.{best, least, rooms, more}
-use Rattle.upload.specs.Plan.{Part, planFrom, cost}
+use Rattle.upload.specs.Plan.{Part, plan_from, cost}
 use Rattle.upload.specs.Parts.{part, InOrder, none, next, counts, Less, here, later}
 use Rattle.upload.proofs.Least.{least-count}
 use Rattle.upload.proofs.Best.{best-falls, best-opens}
@@ -40,12 +40,12 @@ more-stops (suc k) x r h = rw (le-leb x (4 + best k r) (omega arith))
 
 -- The plan covers, and costs the least.
 pub record Planned (ds : List Bool) (i k : ℕ) : Type 0 where
-  pub covers : Covers i (more k (rooms ds)) ds (planFrom i (more k (rooms ds)) ds)
-  pub costs : 4 * more k (rooms ds) + cost (planFrom i (more k (rooms ds)) ds) ≡ best k (rooms ds)
+  pub covers : Covers i (more k (rooms ds)) ds (plan_from i (more k (rooms ds)) ds)
+  pub costs : 4 * more k (rooms ds) + cost (plan_from i (more k (rooms ds)) ds) ≡ best k (rooms ds)
 
 -- At a point with no packet open.
 closed : (d : Bool) (ds : List Bool) (i : ℕ) → ((k : ℕ) → Planned ds (suc i) k) → Planned (d ∷ ds) i 0
-unfolding best rooms more planFrom cost
+unfolding best rooms more plan_from cost
 closed false ds i p = let q = p 0 in record { covers = skip q.covers; costs = q.costs }
 closed true ds i p =
     let q = p 125 in
@@ -54,14 +54,14 @@ closed true ds i p =
 -- With a packet open that may take k points more.
 opened : (d : Bool) (ds : List Bool) (i k : ℕ) → Planned (d ∷ ds) i 0 → Planned ds (suc i) k → (b : Bool)
     → leb (least d (rooms ds)) (4 + best k (rooms ds)) ≡ b → Planned (d ∷ ds) i (suc k)
-unfolding best rooms more planFrom cost
+unfolding best rooms more plan_from cost
 opened d ds i k z s true e =
     record { covers = rw e z.covers; costs = rw e (omega (arith, leb-true)) }
 opened d ds i k z s false e =
     record { covers = rw e (inside s.covers); costs = rw e (omega (arith, leb-false)) }
 
 pub planned : (ds : List Bool) (i k : ℕ) → Planned ds i k
-unfolding best rooms more planFrom cost
+unfolding best rooms more plan_from cost
 planned [] i zero = record { covers = done; costs = refl }
 planned [] i (suc k) = record { covers = done; costs = refl }
 planned (d ∷ ds) i zero = closed d ds i (λ k. planned ds (suc i) k)
@@ -95,16 +95,16 @@ more-none k {d} {ds} v h = more-stops k (least d (rooms ds)) (rooms ds) (omega (
 
 -- One point further in both packets.
 further : (b : Bool) (i : ℕ) {c : ℕ} (k : ℕ) (d : Bool) (ds : List Bool) {qs : List Part} → leb (least d (rooms ds)) (4 + best k (rooms ds)) ≡ b
-    → Ahead (more k (rooms ds)) c (planFrom (suc i) (more k (rooms ds)) ds) qs
-    → Ahead (more (suc k) (rooms (d ∷ ds))) (suc c) (planFrom i (more (suc k) (rooms (d ∷ ds))) (d ∷ ds)) qs
-unfolding best rooms more planFrom
+    → Ahead (more k (rooms ds)) c (plan_from (suc i) (more k (rooms ds)) ds) qs
+    → Ahead (more (suc k) (rooms (d ∷ ds))) (suc c) (plan_from i (more (suc k) (rooms (d ∷ ds))) (d ∷ ds)) qs
+unfolding best rooms more plan_from
 further true i k d ds e a = rw e (fewer (omega arith))
 further false i k d ds e (fewer h) = rw e (fewer (omega arith))
 further false i k d ds e (alike f g) = rw e (alike (ap suc f) g)
 
 ahead : {i c : ℕ} {ds : List Bool} {qs : List Part} → Covers i c ds qs → (k : ℕ) → c ≤ k → k ≤ 125 → 4 * c + cost qs ≤ best k (rooms ds)
-    → Ahead (more k (rooms ds)) c (planFrom i (more k (rooms ds)) ds) qs
-unfolding best rooms more planFrom cost
+    → Ahead (more k (rooms ds)) c (plan_from i (more k (rooms ds)) ds) qs
+unfolding best rooms more plan_from cost
 ahead done k l u h = rw (more-end k) (alike refl (inl refl))
 ahead (inside v) zero l u h = absurd (omega arith)
 ahead (inside {i = i} {d = d} {ds = ds} v) (suc k) l u h =
@@ -118,11 +118,11 @@ ahead (begin {c = c} {d = false} {ds = ds} w v) k l u h =
     absurd (omega (arith, best-falls 0 k (rooms (false ∷ ds)) (omega arith), covers-least w v, best-opens c ds (omega arith)))
 
 -- A cheapest list that covers is the plan, or its counts come later.
-pub first : {ds : List Bool} {qs : List Part} → Covers 0 0 ds qs → cost qs ≤ cost (planFrom 0 0 ds) → First (planFrom 0 0 ds) qs
+pub first : {ds : List Bool} {qs : List Part} → Covers 0 0 ds qs → cost qs ≤ cost (plan_from 0 0 ds) → First (plan_from 0 0 ds) qs
 unfolding more
 first {ds} {qs} v h = go (ahead v 0 (omega arith) (omega arith) (omega (arith, (planned ds 0 0).costs)))
   where
-    go : Ahead 0 0 (planFrom 0 0 ds) qs → First (planFrom 0 0 ds) qs
+    go : Ahead 0 0 (plan_from 0 0 ds) qs → First (plan_from 0 0 ds) qs
     go (fewer l) = absurd (omega arith)
     go (alike e f) = f
 

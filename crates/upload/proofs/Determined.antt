@@ -10,9 +10,9 @@ use lib.Dec.{ltb}
 use lib.ListN.{length, take, drop, get_or, take-append-drop}
 use lib.Seq.{ext_get_or, length-take-le, get_or-take}
 use Rattle.wire.specs.Plain.{Bytes}
-use Rattle.wire.specs.Tables.{words, bytes, longs, longBytes}
+use Rattle.wire.specs.Tables.{words, bytes, longs, long_bytes}
 use Rattle.wire.proofs.Tables.{halves_pairs, bytes-longs, pairs-take}
-use Rattle.upload.specs.Plan.{Part, planNumbers, packetFor, joined, cost}
+use Rattle.upload.specs.Plan.{Part, plan_numbers, packet_for, joined, cost}
 use Rattle.upload.specs.Plain.{PlanLists, PlanOut, ListsRight, PlanNumbersRight, Nothing, PlanRefusals, LeastFrom, RoomMeans, SamePoint, SmallestCount, ChoicesMean, PlanDone, PlanPlain, PlanBytesPlain, MeasuredPlain, MeasuredBytesPlain}
 use Rattle.upload.proofs.Bytes.{below-take}
 use Rattle.upload.proofs.Outcome.{points-decided, lists-decided, fit_words}
@@ -86,13 +86,13 @@ module _ {n : ℕ} {held wanted : List ℕ} {before : PlanLists} (right : PlanNu
   plan-one : a.plan ≡ b.plan
   plan-one =
       both-parts (2 * packets) a.plan b.plan
-      (sym p.plan.numbers ∙ ap planNumbers parts-one ∙ q.plan.numbers ∙ rw packets-one)
+      (sym p.plan.numbers ∙ ap plan_numbers parts-one ∙ q.plan.numbers ∙ rw packets-one)
       (p.plan-behind ∙ rw packets-one (sym q.plan-behind))
 
   batch-one : a.batch ≡ b.batch
   batch-one =
       both-parts size a.batch b.batch
-      (sym p.plan.sent ∙ ap (λ (ps : List Part). joined (map (packetFor wanted) ps)) parts-one ∙ q.plan.sent ∙ rw bytes_one)
+      (sym p.plan.sent ∙ ap (λ (ps : List Part). joined (map (packet_for wanted) ps)) parts-one ∙ q.plan.sent ∙ rw bytes_one)
       (p.batch-behind ∙ rw bytes_one (sym q.batch-behind))
 
   rooms-one : a.room ≡ b.room
@@ -155,7 +155,7 @@ plan-bytes-one : (a b : List ℕ) → length a % 2 ≡ 0 → length b % 2 ≡ 0 
 plan-bytes-one a b h g small small' e = sym (halves_pairs 256 a h small) ∙ ap bytes e ∙ halves_pairs 256 b g small'
 
 room-bytes-one : (a b : List ℕ) → length a % 4 ≡ 0 → length b % 4 ≡ 0 → Bytes a → Bytes b → longs a ≡ longs b → a ≡ b
-room-bytes-one a b h g small small' e = sym (bytes-longs a h small) ∙ ap longBytes e ∙ bytes-longs b g small'
+room-bytes-one a b h g small small' e = sym (bytes-longs a h small) ∙ ap long_bytes e ∙ bytes-longs b g small'
 
 -- The numbers in a room's first 508 bytes.
 longs-front : (a : List ℕ) → longs (take 508 a) ≡ take 127 (longs a)

@@ -1,12 +1,12 @@
 -- The worked examples, computed.
 use mathlib.Core.Path.{refl}
 use Rattle.upload.specs.Cost.{best, rooms, more}
-use Rattle.upload.specs.Plan.{planFrom, cost}
+use Rattle.upload.specs.Plan.{plan_from, cost}
 use Rattle.upload.specs.Parts.{counts}
 use Rattle.upload.specs.Examples.{Examples}
 
 pub examples : Examples
-unfolding best rooms more planFrom cost counts
+unfolding best rooms more plan_from cost counts
 examples =
     record {
       near = record { split = refl; total = refl };

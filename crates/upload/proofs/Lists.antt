@@ -8,10 +8,10 @@ use native.Mathlib.Omega.{arith}
 use lib.ListN.{length, take, drop, replicate, length-append, length-take, length-drop, length-replicate, replicate-append-replicate}
 use lib.Seq.{length-paste, drop-drop, take_at, drop_at}
 use Rattle.packet.specs.Frame.{data_of}
-use Rattle.packet.specs.Points.{start_of, points_of, count_of, acceptedAt, writePoints, mapAfter}
+use Rattle.packet.specs.Points.{start_of, points_of, count_of, accepted_at, write_points, map_after}
 use Rattle.upload.specs.Cost.{differs, best, rooms, more}
-use Rattle.upload.specs.Plan.{Part, planFrom, plan_of, cost, packetFor, packetsOf, joined, batchOf}
-use Rattle.upload.specs.Judge.{mapsAfter, Turns, totalBytes, AllAccepted, MapOf}
+use Rattle.upload.specs.Plan.{Part, plan_from, plan_of, cost, packet_for, packets_of, joined, batch_of}
+use Rattle.upload.specs.Judge.{maps_after, Turns, total_bytes, AllAccepted, MapOf}
 use Rattle.upload.specs.Parts.{part, Fits, InOrder}
 use Rattle.upload.proofs.Best.{one-packet, best-bound}
 use Rattle.upload.proofs.Covers.{Covers, done, inside, skip, begin, covers-inside, covers-in-order, planned}
@@ -29,10 +29,10 @@ owed_none (suc n) = owed_none n
 
 -- Points written into a map of n points.
 module _ (n : ℕ) (m w pts : List ℕ) (s c : ℕ) (long : length m ≡ 2 * n) (wide : length w ≡ 2 * n) (whole : length pts ≡ 2 * c) (within : s + c ≤ n) where
-  length-write : length (writePoints s pts m) ≡ 2 * n
+  length-write : length (write_points s pts m) ≡ 2 * n
   length-write = length-paste m (2 * s) pts (length pts) (omega arith) (omega arith) ∙ long
 
-  owed-write : c ≤ 126 → owed m w ≤ 6 + 4 * c + owed (writePoints s pts m) w
+  owed-write : c ≤ 126 → owed m w ≤ 6 + 4 * c + owed (write_points s pts m) w
   owed-write few =
       let ds : List Bool = differs m w in
       let new : List Bool = differs pts (take (2 * c) (drop (2 * s) w)) in
@@ -50,14 +50,14 @@ module _ (n : ℕ) (m w pts : List ℕ) (s c : ℕ) (long : length m ≡ 2 * n) 
 
 -- Any packet: the map keeps its length, and what it costs falls by at most the packet's length.
 pub record After (n : ℕ) (p m w : List ℕ) : Type 0 where
-  pub long : length (mapAfter n p m) ≡ 2 * n
-  pub owes : owed m w ≤ length p + owed (mapAfter n p m) w
+  pub long : length (map_after n p m) ≡ 2 * n
+  pub owes : owed m w ≤ length p + owed (map_after n p m) w
 
 pub after : (n : ℕ) (p m w : List ℕ) → length m ≡ 2 * n → length w ≡ 2 * n → After n p m w
-unfolding mapAfter
-after n p m w long wide = go (acceptedAt n p) refl
+unfolding map_after
+after n p m w long wide = go (accepted_at n p) refl
   where
-    go : (b : Bool) → acceptedAt n p ≡ b → After n p m w
+    go : (b : Bool) → accepted_at n p ≡ b → After n p m w
     go false e = record { long = rw e long; owes = rw e (omega arith) }
     go true e =
         let d : List ℕ = data_of p in
@@ -67,23 +67,23 @@ after n p m w long wide = go (acceptedAt n p) refl
           owes = rw e (omega (arith, owed-write n m w (points_of d) (start_of d) (count_of d) long wide f.long f.within f.few));
         }
 
-pub owed-least : (n : ℕ) (w : List ℕ) → length w ≡ 2 * n → (ps : List (List ℕ)) (m : List ℕ) → length m ≡ 2 * n → mapsAfter n ps m ≡ w
-    → owed m w ≤ totalBytes ps
-unfolding mapsAfter totalBytes
+pub owed-least : (n : ℕ) (w : List ℕ) → length w ≡ 2 * n → (ps : List (List ℕ)) (m : List ℕ) → length m ≡ 2 * n → maps_after n ps m ≡ w
+    → owed m w ≤ total_bytes ps
+unfolding maps_after total_bytes
 owed-least n w wide [] m long e =
     rw (e, differs-self n w wide, owed_none n) (omega arith)
 owed-least n w wide (p ∷ ps) m long e =
     let a = after n p m w long wide in
-    omega (arith, owed-least n w wide ps (mapAfter n p m) a.long e)
+    omega (arith, owed-least n w wide ps (map_after n p m) a.long e)
 
 -- A part's packet.
 pub record PartAfter (n : ℕ) (w m : List ℕ) (p : Part) : Type 0 where
-  pub long : length (mapAfter n (packetFor w p) m) ≡ 2 * n
-  pub differ : differs (mapAfter n (packetFor w p) m) w
+  pub long : length (map_after n (packet_for w p) m) ≡ 2 * n
+  pub differ : differs (map_after n (packet_for w p) m) w
       ≡ take p.start (differs m w) ++ (replicate p.count false ++ drop (p.start + p.count) (differs m w))
 
 pub part-after : (n : ℕ) (w m : List ℕ) (p : Part) → length w ≡ 2 * n → length m ≡ 2 * n → Fits n p → PartAfter n w m p
-unfolding mapAfter
+unfolding map_after
 part-after n w m p wide long f =
     let r = meant n w p wide f in
     let pts : List ℕ = take (2 * p.count) (drop (2 * p.start) w) in
@@ -97,17 +97,17 @@ part-after n w m p wide long f =
     }
 
 -- Parts in order: their packets are accepted, and cost what the parts do.
-pub all-accepted : {n i : ℕ} {ps : List Part} (w : List ℕ) → length w ≡ 2 * n → InOrder n i ps → AllAccepted n (map (packetFor w) ps)
+pub all-accepted : {n i : ℕ} {ps : List Part} (w : List ℕ) → length w ≡ 2 * n → InOrder n i ps → AllAccepted n (map (packet_for w) ps)
 all-accepted w wide InOrder.none = AllAccepted.none
 all-accepted {n} w wide (InOrder.next {p = p} l f r) = AllAccepted.next (meant n w p wide f).taken (all-accepted w wide r)
 
-pub bytes-cost : {n i : ℕ} {ps : List Part} (w : List ℕ) → length w ≡ 2 * n → InOrder n i ps → totalBytes (map (packetFor w) ps) ≡ cost ps
-unfolding totalBytes cost
+pub bytes-cost : {n i : ℕ} {ps : List Part} (w : List ℕ) → length w ≡ 2 * n → InOrder n i ps → total_bytes (map (packet_for w) ps) ≡ cost ps
+unfolding total_bytes cost
 bytes-cost w wide InOrder.none = refl
 bytes-cost {n} w wide (InOrder.next {p = p} l f r) = omega (arith, bytes-cost w wide r, (meant n w p wide f).size)
 
-pub length-joined : (ps : List (List ℕ)) → length (joined ps) ≡ totalBytes ps
-unfolding joined totalBytes
+pub length-joined : (ps : List (List ℕ)) → length (joined ps) ≡ total_bytes ps
+unfolding joined total_bytes
 length-joined [] = refl
 length-joined (p ∷ ps) = rw length-append (omega (arith, length-joined ps))
 
@@ -124,8 +124,8 @@ cleared i c d ds all e =
     rw (before, rest, ← append_assoc (replicate i false) (replicate (suc c) false) (drop c ds), replicate-append-replicate i (suc c) false)
 
 pub covers-turn : (n : ℕ) (w : List ℕ) → length w ≡ 2 * n → {i k : ℕ} {ds : List Bool} {ps : List Part} → Covers i k ds ps → i + length ds ≡ n
-    → (m : List ℕ) → length m ≡ 2 * n → differs m w ≡ replicate (i + k) false ++ drop k ds → mapsAfter n (map (packetFor w) ps) m ≡ w
-unfolding mapsAfter
+    → (m : List ℕ) → length m ≡ 2 * n → differs m w ≡ replicate (i + k) false ++ drop k ds → maps_after n (map (packet_for w) ps) m ≡ w
+unfolding maps_after
 covers-turn n w wide (done {i = i}) e m long h =
     let all : i + 0 ≡ n = omega arith in
     differs_none n m w long wide (h ∙ append-nil (replicate (i + 0) false) ∙ rw all)
@@ -154,25 +154,25 @@ module _ (n : ℕ) (held wanted : List ℕ) (long : length held ≡ 2 * n) (wide
   unfolding plan_of more
   plan-cost = omega (arith, (planned (differs held wanted) 0 0).costs)
 
-  pub batch-cost : length (batchOf held wanted) ≡ cost (plan_of held wanted)
-  unfolding batchOf packetsOf
-  batch-cost = length-joined (packetsOf held wanted) ∙ bytes-cost wanted wide plan-in-order
+  pub batch-cost : length (batch_of held wanted) ≡ cost (plan_of held wanted)
+  unfolding batch_of packets_of
+  batch-cost = length-joined (packets_of held wanted) ∙ bytes-cost wanted wide plan-in-order
 
 -- For every N, of which rule 6.1 takes 1 to 1,984.
 -- Demand 3 (rule 7.3) of the batch that the definitions give.
 pub record Demand3 (n : ℕ) (held wanted : List ℕ) : Type 0 where
-  pub turns : Turns n held wanted (packetsOf held wanted)
-  pub accepted : AllAccepted n (packetsOf held wanted)
-  pub bytes : length (batchOf held wanted) ≡ totalBytes (packetsOf held wanted)
-  pub fewest : (ps : List (List ℕ)) → Turns n held wanted ps → length (batchOf held wanted) ≤ totalBytes ps
+  pub turns : Turns n held wanted (packets_of held wanted)
+  pub accepted : AllAccepted n (packets_of held wanted)
+  pub bytes : length (batch_of held wanted) ≡ total_bytes (packets_of held wanted)
+  pub fewest : (ps : List (List ℕ)) → Turns n held wanted ps → length (batch_of held wanted) ≤ total_bytes ps
 
 pub demand3 : (n : ℕ) (held wanted : List ℕ) → MapOf n held → MapOf n wanted → Demand3 n held wanted
-unfolding packetsOf batchOf
+unfolding packets_of batch_of
 demand3 n held wanted h w =
     record {
       turns = covers-turn n wanted w.long (plan-covers n held wanted h.long w.long) (omega (arith, differs-long n held wanted h.long w.long)) held h.long refl;
       accepted = all-accepted wanted w.long (plan-in-order n held wanted h.long w.long);
-      bytes = length-joined (packetsOf held wanted);
+      bytes = length-joined (packets_of held wanted);
       fewest = λ ps e.
           omega (
             arith,
@@ -188,12 +188,12 @@ plan-bound n held wanted h w =
     let all = differs-long n held wanted h.long w.long in
     omega (arith, plan-cost n held wanted h.long w.long, best-bound 0 ((n + 125) / 126) (differs held wanted) (omega arith))
 
-pub batch-bound : (n : ℕ) (held wanted : List ℕ) → MapOf n held → MapOf n wanted → length (batchOf held wanted) ≤ 4 * n + 6 * ((n + 125) / 126)
+pub batch-bound : (n : ℕ) (held wanted : List ℕ) → MapOf n held → MapOf n wanted → length (batch_of held wanted) ≤ 4 * n + 6 * ((n + 125) / 126)
 batch-bound n held wanted h w = omega (arith, batch-cost n held wanted h.long w.long, plan-bound n held wanted h w)
 
 -- Equal maps give no packet.
-plan-none : (n i : ℕ) → planFrom i 0 (replicate n false) ≡ []
-unfolding planFrom
+plan-none : (n i : ℕ) → plan_from i 0 (replicate n false) ≡ []
+unfolding plan_from
 plan-none zero i = refl
 plan-none (suc n) i = plan-none n (suc i)
 

@@ -13,16 +13,16 @@ use lib.Seq.{drop_at, take-append-le}
 use lib.Dec.{eqb}
 use Rattle.wire.specs.First.{first}
 use Rattle.wire.specs.Buffers.{over}
-use Rattle.wire.specs.Tables.{halves, words, bytes, longs, longBytes}
+use Rattle.wire.specs.Tables.{halves, words, bytes, longs, long_bytes}
 use Rattle.wire.proofs.Laws.{take-over}
 use Rattle.wire.proofs.Tables.{length_pairs, length-halves, pairs-halves, halves-drop, halves-over, pairs-over, bytes-longs}
 use Rattle.wire.proofs.Tests.{told, or_left}
 use Rattle.upload.specs.Cost.{differs, best, rooms, choices}
-use Rattle.upload.specs.Plan.{Part, plan_of, followed, planNumbers, packetFor, packetsOf, joined, batchOf}
+use Rattle.upload.specs.Plan.{Part, plan_of, followed, plan_numbers, packet_for, packets_of, joined, batch_of}
 use Rattle.upload.specs.Judge.{MapOf}
 use Rattle.upload.specs.Parts.{InOrder, none, next}
 use Rattle.upload.specs.Plain.{PlanLists, PlanOut, PointsRight, ListsRight, PlanNumbersRight, PlanBytesRight, Nothing, PlanRefusals, Fewest, PlanChosen, PlanDone, MapsLent}
-use Rattle.upload.specs.Planning.{planLists, listsIn, listBytes, bytePlanOut, writes, overAll, plannedBy, pointsWrong, lengths, lengthsWrong, refusalsWith, planRefusals, bytePlanRefusals, planOut, firsts, roomOf, choicesOf, planned, plannedBytes, Measured, MeasuredBytes, Followable, PlanWritten, Planned, PlannedBytes}
+use Rattle.upload.specs.Planning.{plan_lists, lists_in, list_bytes, byte_plan_out, writes, over_all, planned_by, points_wrong, lengths, lengths_wrong, refusals_with, plan_refusals, byte_plan_refusals, plan_out, firsts, room_of, choices_of, planned, planned_bytes, Measured, MeasuredBytes, Followable, PlanWritten, Planned, PlannedBytes}
 use Rattle.upload.proofs.Lists.{demand3, plan-in-order, plan-cost, plan-bound, batch-cost, batch-bound, plan-equal}
 use Rattle.upload.proofs.Choice.{plan-chosen, chosen-only}
 use Rattle.upload.proofs.RoomMeans.{written_at, least-from, room-means, choices-mean}
@@ -42,11 +42,11 @@ not-refused r e =
     }
 
 -- Nothing answered, nothing changed.
-nothing : (number : ℕ) (s : PlanLists) → Nothing s (planOut number 0 0 s)
+nothing : (number : ℕ) (s : PlanLists) → Nothing s (plan_out number 0 0 s)
 nothing number s = record { packets = refl; bytes = refl; plan = refl; room = refl; choices = refl; batch = refl }
 
 -- The tests of points and of lengths say what is right.
-points-tested : (n : ℕ) → (pointsWrong n ≡ false) ↔ PointsRight n
+points-tested : (n : ℕ) → (points_wrong n ≡ false) ↔ PointsRight n
 points-tested n = (
   λ e.
       let none : n ≡ 0 → ⊥ = eqb-false n 0 (or_left _ _ e) in
@@ -60,18 +60,18 @@ tested true t = no (λ r. let z : ◌≡◌ {A = ℕ} 0 1 = cc (t.1 r) in omega 
 tested false t = yes (t.0 refl)
 
 pub points-decided : (n : ℕ) → Dec (PointsRight n)
-points-decided n = tested (pointsWrong n) (points-tested n)
+points-decided n = tested (points_wrong n) (points-tested n)
 
 module _ (each plans places n : ℕ) (held wanted : List ℕ) (s : PlanLists) where
   abbrev asked : List (ℕ × Bool)
-  asked = refusalsWith each plans places n held wanted s
+  asked = refusals_with each plans places n held wanted s
 
   abbrev Right : Type 0
   Right = ListsRight each plans places n held wanted s
 
   abbrev wrong : Bool
   wrong =
-      lengthsWrong
+      lengths_wrong
       (lengths (length held) (length wanted) (length s.plan) (length s.room) (length s.choices) (length s.batch))
       (lengths (each * n) (each * n) plans places 1984 8032)
 
@@ -105,10 +105,10 @@ module _ (each plans places n : ℕ) (held wanted : List ℕ) (s : PlanLists) wh
   lists-decided = tested wrong lists-tested
 
   -- The number that the tests give, and nothing changed.
-  judged : PlanRefusals n Right s (planOut (first asked) 0 0 s)
-  judged = go (pointsWrong n) wrong refl refl
+  judged : PlanRefusals n Right s (plan_out (first asked) 0 0 s)
+  judged = go (points_wrong n) wrong refl refl
     where
-      go : (a b : Bool) → pointsWrong n ≡ a → wrong ≡ b → PlanRefusals n Right s (planOut (first asked) 0 0 s)
+      go : (a b : Bool) → points_wrong n ≡ a → wrong ≡ b → PlanRefusals n Right s (plan_out (first asked) 0 0 s)
       go true b e f =
           let no : PointsRight n → ⊥ = λ r. let z : ◌≡◌ {A = ℕ} 0 1 = cc ((points-tested n).1 r) in omega arith in
           rw e (record { exactly = (λ z. absurd (omega arith), λ r. absurd (no r.0)); wrong-points = λ w. refl; wrong-length = λ r w. absurd (no r); refused = λ z. nothing 10 s })
@@ -137,15 +137,15 @@ maps-lent f = record { few = f.0.few; held-long = f.1.held-long; wanted-long = f
 
 -- The choices of all points are the first of the lent list; they can be followed, and give the plan.
 choices-taken : (n : ℕ) (held wanted list : List ℕ) → n ≤ 1984 → MapOf n held → MapOf n wanted
-    → take n (over (choicesOf held wanted) list) ≡ choices (differs held wanted)
+    → take n (over (choices_of held wanted) list) ≡ choices (differs held wanted)
 unfolding over
 choices-taken n held wanted list few h w =
     let cs : List ℕ = choices (differs held wanted) in
     let all : length cs ≡ n = length-choices (differs held wanted) ∙ differs-long n held wanted h.long w.long in
-    take-append-le n (choicesOf held wanted) _ (omega (arith, length-firsts 1984 cs)) ∙ rw (← all) (firsts-all 1984 cs (omega arith))
+    take-append-le n (choices_of held wanted) _ (omega (arith, length-firsts 1984 cs)) ∙ rw (← all) (firsts-all 1984 cs (omega arith))
 
 choices-follow : (n : ℕ) (held wanted list : List ℕ) → n ≤ 1984 → MapOf n held → MapOf n wanted
-    → followed 0 0 (take n (over (choicesOf held wanted) list)) ≡ plan_of held wanted
+    → followed 0 0 (take n (over (choices_of held wanted) list)) ≡ plan_of held wanted
 unfolding plan_of
 choices-follow n held wanted list few h w =
     rw (choices-taken n held wanted list few h w) (followed-plan 0 0 (differs held wanted))
@@ -164,17 +164,17 @@ pub record Ready (n : ℕ) (list : List ℕ) : Type 0 where
   pub all : length (take n list) ≡ n
   pub can : Followable (take n list)
 
-pub ready : (n : ℕ) (held wanted : List ℕ) {cut : List ℕ} (list : List ℕ) → n ≤ 1984 → MapOf n held → MapOf n wanted → cut ≡ choicesOf held wanted
+pub ready : (n : ℕ) (held wanted : List ℕ) {cut : List ℕ} (list : List ℕ) → n ≤ 1984 → MapOf n held → MapOf n wanted → cut ≡ choices_of held wanted
     → Ready n (cut ++ drop 1984 list)
 ready n held wanted list few h w e =
     let ds : List Bool = differs held wanted in
     let size = length-firsts 1984 (choices ds) in
     let taken = choices-taken n held wanted list few h w in
-    let all : length (take n (over (choicesOf held wanted) list)) ≡ n = rw taken (length-choices ds ∙ differs-long n held wanted h.long w.long) in
+    let all : length (take n (over (choices_of held wanted) list)) ≡ n = rw taken (length-choices ds ∙ differs-long n held wanted h.long w.long) in
     let plan = choices-follow n held wanted list few h w in
-    rw (over-part 1984 (choicesOf held wanted) list size e)
+    rw (over-part 1984 (choices_of held wanted) list size e)
     (record {
-      within = omega (arith, length-take n (over (choicesOf held wanted) list));
+      within = omega (arith, length-take n (over (choices_of held wanted) list));
       all = all;
       can =
           record {
@@ -186,14 +186,14 @@ ready n held wanted list few h w e =
 
 -- Measured: the least bytes are the batch's.
 module _ (n : ℕ) (held wanted : List ℕ) (h : MapOf n held) (w : MapOf n wanted) where
-  low-cost : length (batchOf held wanted) ≡ best 0 (rooms (differs held wanted))
+  low-cost : length (batch_of held wanted) ≡ best 0 (rooms (differs held wanted))
   low-cost = batch-cost n held wanted h.long w.long ∙ plan-cost n held wanted h.long w.long
 
   pub measured : {numbers many least numbers' many' : ℕ} {room list : List ℕ} → numbers' ≡ numbers → many' ≡ many
       → AllMeasured (differs held wanted) numbers many least room list → Measured n held wanted numbers' many' least room list
   measured {numbers} {many} {least} {room = room} {list = list} e₁ e₂ t =
       let ds : List Bool = differs held wanted in
-      let e : least ≡ length (batchOf held wanted) = t.low ∙ sym low-cost in
+      let e : least ≡ length (batch_of held wanted) = t.low ∙ sym low-cost in
       record {
         bytes-are = e;
         room-is = rw e₁ t.room_whole;
@@ -221,14 +221,14 @@ measured-bytes e t =
 
 -- Demand 3 of the batch's own length.
 pub fewest : (n : ℕ) (held wanted batch : List ℕ) → MapOf n held → MapOf n wanted
-    → Fewest n held wanted (length (plan_of held wanted)) (length (batchOf held wanted)) (over (batchOf held wanted) batch)
-unfolding packetsOf batchOf
+    → Fewest n held wanted (length (plan_of held wanted)) (length (batch_of held wanted)) (over (batch_of held wanted) batch)
+unfolding packets_of batch_of
 fewest n held wanted batch h w =
     let d = demand3 n held wanted h w in
     record {
-      packets = packetsOf held wanted;
-      as_many = length-map (plan_of held wanted) (packetFor wanted);
-      back-to-back = sym (take-over (batchOf held wanted) batch);
+      packets = packets_of held wanted;
+      as_many = length-map (plan_of held wanted) (packet_for wanted);
+      back-to-back = sym (take-over (batch_of held wanted) batch);
       accepted = d.accepted;
       turns = d.turns;
       total = sym d.bytes;
@@ -237,26 +237,26 @@ fewest n held wanted batch h w =
 
 -- The plan is in the lent list, is the one that is chosen, and is what following the choices gives.
 pub chosen : (n : ℕ) (held wanted plan list batch : List ℕ) → n ≤ 1984 → MapOf n held → MapOf n wanted
-    → PlanChosen n held wanted (length (plan_of held wanted)) (length (batchOf held wanted)) (over (planNumbers (plan_of held wanted)) plan)
-    (over (choicesOf held wanted) list) (over (batchOf held wanted) batch)
-unfolding packetsOf batchOf
+    → PlanChosen n held wanted (length (plan_of held wanted)) (length (batch_of held wanted)) (over (plan_numbers (plan_of held wanted)) plan)
+    (over (choices_of held wanted) list) (over (batch_of held wanted) batch)
+unfolding packets_of batch_of
 chosen n held wanted plan list batch few h w =
     record {
       parts = plan_of held wanted;
       as_many = refl;
-      numbers = rw (← length-numbers (plan_of held wanted)) (sym (take-over (planNumbers (plan_of held wanted)) plan));
+      numbers = rw (← length-numbers (plan_of held wanted)) (sym (take-over (plan_numbers (plan_of held wanted)) plan));
       placed = λ k l. placed n wanted plan batch w.long (plan-in-order n held wanted h.long w.long) k l;
       chosen = plan-chosen n held wanted h w;
       only = chosen-only n held wanted h w;
       follows = choices-follow n held wanted list few h w;
       total = sym (batch-cost n held wanted h.long w.long);
       bound = batch-bound n held wanted h w;
-      sent = sym (take-over (batchOf held wanted) batch);
+      sent = sym (take-over (batch_of held wanted) batch);
     }
 
 -- Equal maps have no packet to send.
-equal-none : (n : ℕ) (held wanted : List ℕ) → MapOf n held → held ≡ wanted → (length (plan_of held wanted) ≡ 0) × (length (batchOf held wanted) ≡ 0)
-unfolding packetsOf batchOf joined
+equal-none : (n : ℕ) (held wanted : List ℕ) → MapOf n held → held ≡ wanted → (length (plan_of held wanted) ≡ 0) × (length (batch_of held wanted) ≡ 0)
+unfolding packets_of batch_of joined
 equal-none n held wanted h e = rw (← e, plan-equal n held h) (refl, refl)
 
 -- What lies behind numbers that are written over the start of a list, and so behind their bytes.
@@ -280,8 +280,8 @@ few-parts : (n : ℕ) (held wanted : List ℕ) → MapOf n held → MapOf n want
 few-parts n held wanted h w = omega (arith, in-order-few (omega arith) (plan-in-order n held wanted h.long w.long))
 
 -- Refused.
-pub refused : (n : ℕ) (held wanted : List ℕ) (s : PlanLists) {number : ℕ} → number ≡ first (planRefusals n held wanted s) → (number ≡ 0 → ⊥)
-    → Planned n held wanted s (planOut number 0 0 s)
+pub refused : (n : ℕ) (held wanted : List ℕ) (s : PlanLists) {number : ℕ} → number ≡ first (plan_refusals n held wanted s) → (number ≡ 0 → ⊥)
+    → Planned n held wanted s (plan_out number 0 0 s)
 unfolding planned
 refused n held wanted s {number} e h =
     record {
@@ -289,9 +289,9 @@ refused n held wanted s {number} e h =
       plain = record { refusals = rw e (judged 2 3968 127 n held wanted s); done = λ z. absurd (h z) };
     }
 
-pub refused-bytes : (n : ℕ) (held wanted : List ℕ) (s : PlanLists) {number : ℕ} → number ≡ first (bytePlanRefusals n held wanted s) → (number ≡ 0 → ⊥)
-    → PlannedBytes n held wanted s (planOut number 0 0 s)
-unfolding plannedBytes
+pub refused-bytes : (n : ℕ) (held wanted : List ℕ) (s : PlanLists) {number : ℕ} → number ≡ first (byte_plan_refusals n held wanted s) → (number ≡ 0 → ⊥)
+    → PlannedBytes n held wanted s (plan_out number 0 0 s)
+unfolding planned_bytes
 refused-bytes n held wanted s {number} e h =
     record {
       outcome = rw (← e, ne_eqb number 0 h);
@@ -317,7 +317,7 @@ firsts-behind m l list = rw length-firsts at (behind-over (firsts m l) list)
 
 -- Planned: what it leaves, in plain terms.
 left-plain : (n : ℕ) (held wanted : List ℕ) (s : PlanLists) → PointsRight n × PlanNumbersRight n held wanted s → MapOf n held → MapOf n wanted
-    → PlanDone n held wanted s (length (plan_of held wanted)) (length (batchOf held wanted)) (overAll (writes held wanted) s)
+    → PlanDone n held wanted s (length (plan_of held wanted)) (length (batch_of held wanted)) (over_all (writes held wanted) s)
 left-plain n held wanted s f h w =
     let few = f.0.few in
     let ds : List Bool = differs held wanted in
@@ -327,24 +327,24 @@ left-plain n held wanted s f h w =
     record {
       fewest = fewest n held wanted s.batch h w;
       plan = chosen n held wanted s.plan s.choices s.batch few h w;
-      room = room-means n held wanted h w 127 (over (roomOf held wanted) s.room) (λ k l. written_at 127 (rooms ds) s.room k (omega arith));
-      choices = choices-mean n held wanted h w 1984 (over (choicesOf held wanted) s.choices) (λ k l. written_at 1984 (choices ds) s.choices k (omega arith));
+      room = room-means n held wanted h w 127 (over (room_of held wanted) s.room) (λ k l. written_at 127 (rooms ds) s.room k (omega arith));
+      choices = choices-mean n held wanted h w 1984 (over (choices_of held wanted) s.choices) (λ k l. written_at 1984 (choices ds) s.choices k (omega arith));
       equal = equal-none n held wanted h;
-      plan-behind = rw (← length-numbers plan) (behind-over (planNumbers plan) s.plan);
+      plan-behind = rw (← length-numbers plan) (behind-over (plan_numbers plan) s.plan);
       room-behind = firsts-behind 127 (rooms ds) s.room;
       choices-behind = firsts-behind 1984 (choices ds) s.choices;
-      batch-behind = behind-over (batchOf held wanted) s.batch;
-      plan-kept = length_over (planNumbers plan) s.plan (omega (arith, length-numbers plan, f.1.plan-long));
-      room-kept = length_over (roomOf held wanted) s.room (omega (arith, length-firsts 127 (rooms ds), f.1.room-long));
-      choices-kept = length_over (choicesOf held wanted) s.choices (omega (arith, length-firsts 1984 (choices ds), f.1.choices-long));
-      batch-kept = length_over (batchOf held wanted) s.batch (omega (arith, f.1.batch-long));
+      batch-behind = behind-over (batch_of held wanted) s.batch;
+      plan-kept = length_over (plan_numbers plan) s.plan (omega (arith, length-numbers plan, f.1.plan-long));
+      room-kept = length_over (room_of held wanted) s.room (omega (arith, length-firsts 127 (rooms ds), f.1.room-long));
+      choices-kept = length_over (choices_of held wanted) s.choices (omega (arith, length-firsts 1984 (choices ds), f.1.choices-long));
+      batch-kept = length_over (batch_of held wanted) s.batch (omega (arith, f.1.batch-long));
     }
 
-pub done : (n : ℕ) (held wanted : List ℕ) (s : PlanLists) {plan room list batch : List ℕ} {packets size : ℕ} → first (planRefusals n held wanted s) ≡ 0
-    → MapOf n held → MapOf n wanted → room ≡ over (roomOf held wanted) s.room → list ≡ over (choicesOf held wanted) s.choices
+pub done : (n : ℕ) (held wanted : List ℕ) (s : PlanLists) {plan room list batch : List ℕ} {packets size : ℕ} → first (plan_refusals n held wanted s) ≡ 0
+    → MapOf n held → MapOf n wanted → room ≡ over (room_of held wanted) s.room → list ≡ over (choices_of held wanted) s.choices
     → PlanWritten wanted (followed 0 0 (take n list)) s.plan s.batch plan batch packets size
-    → Planned n held wanted s (planOut 0 packets size (planLists plan room list batch))
-unfolding planned packetsOf batchOf
+    → Planned n held wanted s (plan_out 0 packets size (plan_lists plan room list batch))
+unfolding planned packets_of batch_of
 done n held wanted s {packets = packets} {size = size} e h w r c written =
     let f = fit 2 3968 127 n held wanted s e in
     let t = rw (c, choices-follow n held wanted s.choices f.0.few h w) at written in
@@ -359,7 +359,7 @@ done n held wanted s {packets = packets} {size = size} e h w r c written =
 
 -- The numbers that bytes of the right lengths hold are of the right lengths.
 pub fit_words : {n : ℕ} {held wanted : List ℕ} {s : PlanLists} → PointsRight n × PlanBytesRight n held wanted s
-    → PointsRight n × PlanNumbersRight n (words held) (words wanted) (listsIn s)
+    → PointsRight n × PlanNumbersRight n (words held) (words wanted) (lists_in s)
 fit_words (points, f) = (
   points,
   record {
@@ -373,7 +373,7 @@ fit_words (points, f) = (
 )
 
 -- The bytes of the room's numbers.
-room-bytes : (l : List ℕ) → length (longBytes (firsts 127 l)) ≡ 508
+room-bytes : (l : List ℕ) → length (long_bytes (firsts 127 l)) ≡ 508
 room-bytes l =
     omega (arith, length-halves 256 (halves 65536 (firsts 127 l)), length-halves 65536 (firsts 127 l), length-firsts 127 l)
 
@@ -389,43 +389,43 @@ below-front (x ∷ a) b h zero = h 0
 below-front (x ∷ a) b h (suc k) = below-front a b (λ j. h (suc j)) k
 
 pub room-over : (cut room l : List ℕ) → length cut ≡ 508 → ((k : ℕ) → get_or (cut ++ drop 508 room) k 0 < 256) → longs cut ≡ firsts 127 l
-    → cut ++ drop 508 room ≡ over (longBytes (firsts 127 l)) room
+    → cut ++ drop 508 room ≡ over (long_bytes (firsts 127 l)) room
 room-over cut room l long small e =
-    over-part 508 (longBytes (firsts 127 l)) room (room-bytes l) (sym (bytes-longs cut (omega arith) (below-front cut (drop 508 room) small)) ∙ ap longBytes e)
+    over-part 508 (long_bytes (firsts 127 l)) room (room-bytes l) (sym (bytes-longs cut (omega arith) (below-front cut (drop 508 room) small)) ∙ ap long_bytes e)
 
 -- The numbers that the bytes hold are planned as above, and the bytes are those of the numbers.
 pub done-bytes : (n : ℕ) (held wanted : List ℕ) (s : PlanLists) {plan room list batch : List ℕ} {packets size : ℕ}
-    → first (bytePlanRefusals n held wanted s) ≡ 0 → MapOf n (words held) → MapOf n (words wanted) → bytes (words plan) ≡ plan
-    → bytes (words s.plan) ≡ s.plan → room ≡ over (longBytes (roomOf (words held) (words wanted))) s.room
-    → list ≡ over (choicesOf (words held) (words wanted)) s.choices
+    → first (byte_plan_refusals n held wanted s) ≡ 0 → MapOf n (words held) → MapOf n (words wanted) → bytes (words plan) ≡ plan
+    → bytes (words s.plan) ≡ s.plan → room ≡ over (long_bytes (room_of (words held) (words wanted))) s.room
+    → list ≡ over (choices_of (words held) (words wanted)) s.choices
     → PlanWritten (words wanted) (followed 0 0 (take n list)) (words s.plan) s.batch (words plan) batch packets size
-    → PlannedBytes n held wanted s (planOut 0 packets size (planLists plan room list batch))
-unfolding plannedBytes packetsOf batchOf
+    → PlannedBytes n held wanted s (plan_out 0 packets size (plan_lists plan room list batch))
+unfolding planned_bytes packets_of batch_of
 done-bytes n held wanted s {plan} {room} {list} {batch} {packets} {size} e h w p p₀ r c t =
     let f = fit 4 7936 508 n held wanted s e in
-    let numbers : List ℕ = roomOf (words held) (words wanted) in
+    let numbers : List ℕ = room_of (words held) (words wanted) in
     let longs-room : longs room ≡ over numbers (longs s.room) =
     rw (r, pairs-over 256 (halves 65536 numbers) s.room, pairs-over 65536 numbers (words s.room)) in
     let q =
-    done n (words held) (words wanted) (listsIn s) (taken 2 3968 127 n (words held) (words wanted) (listsIn s) (fit_words f)) h w longs-room c t in
+    done n (words held) (words wanted) (lists_in s) (taken 2 3968 127 n (words held) (words wanted) (lists_in s) (fit_words f)) h w longs-room c t in
     let left = q.plain.done refl in
     let v = rw (c, choices-follow n (words held) (words wanted) s.choices f.0.few h w) at t in
     record {
-      outcome = rw (e, v.packets-are, v.bytes-are, over-bytes (planNumbers (plan_of (words held) (words wanted))) p p₀ v.plan-is, r, c, v.batch-is);
+      outcome = rw (e, v.packets-are, v.bytes-are, over-bytes (plan_numbers (plan_of (words held) (words wanted))) p p₀ v.plan-is, r, c, v.batch-is);
       plain =
           record {
             refusals = not-refused f refl;
             numbers = λ z. left;
             plan-behind = bytes-behind packets p p₀ left.plan-behind;
-            room-behind = rw r (rw room-bytes at (behind-over (longBytes numbers) s.room));
+            room-behind = rw r (rw room-bytes at (behind-over (long_bytes numbers) s.room));
             plan-kept = bytes-kept p p₀ left.plan-kept;
-            room-kept = rw r (length_over (longBytes numbers) s.room (omega (arith, room-bytes (rooms (differs (words held) (words wanted))), f.1.room-long)));
+            room-kept = rw r (length_over (long_bytes numbers) s.room (omega (arith, room-bytes (rooms (differs (words held) (words wanted))), f.1.room-long)));
           };
     }
 
 -- Numbers lent as their bytes: planning does there what it does on the numbers.
 fit-bytes : {n : ℕ} {held wanted : List ℕ} {s : PlanLists} → PointsRight n × PlanNumbersRight n held wanted s
-    → PointsRight n × PlanBytesRight n (bytes held) (bytes wanted) (listBytes s)
+    → PointsRight n × PlanBytesRight n (bytes held) (bytes wanted) (list_bytes s)
 fit-bytes (points, f) = (
   points,
   record {
@@ -438,23 +438,23 @@ fit-bytes (points, f) = (
   },
 )
 
-status-by : (plan : List Part) (new s : PlanLists) (number : ℕ) (b : Bool) → eqb number 0 ≡ b → (plannedBy number plan new s).status ≡ number
+status-by : (plan : List Part) (new s : PlanLists) (number : ℕ) (b : Bool) → eqb number 0 ≡ b → (planned_by number plan new s).status ≡ number
 status-by plan new s number true e = rw e (sym (eqb-true number 0 e))
 status-by plan new s number false e = rw e
 
 pub plan-bytes : (n : ℕ) (held wanted : List ℕ) (s : PlanLists) → (planned n held wanted s).status ≡ 0
-    → plannedBytes n (bytes held) (bytes wanted) (listBytes s) ≡ bytePlanOut (planned n held wanted s)
-unfolding planned plannedBytes
+    → planned_bytes n (bytes held) (bytes wanted) (list_bytes s) ≡ byte_plan_out (planned n held wanted s)
+unfolding planned planned_bytes
 plan-bytes n held wanted s e =
-    let number : ℕ = first (planRefusals n held wanted s) in
+    let number : ℕ = first (plan_refusals n held wanted s) in
     let silent : number ≡ 0 = sym (status-by (plan_of held wanted) (writes held wanted) s number (eqb number 0) refl) ∙ e in
-    let none = taken 4 7936 508 n (bytes held) (bytes wanted) (listBytes s) (fit-bytes (fit 2 3968 127 n held wanted s silent)) in
+    let none = taken 4 7936 508 n (bytes held) (bytes wanted) (list_bytes s) (fit-bytes (fit 2 3968 127 n held wanted s silent)) in
     rw (
       silent,
       none,
       pairs-halves 256 held,
       pairs-halves 256 wanted,
-      halves-over 256 (planNumbers (plan_of held wanted)) s.plan,
-      halves-over 65536 (roomOf held wanted) s.room,
-      halves-over 256 (halves 65536 (roomOf held wanted)) (halves 65536 s.room),
+      halves-over 256 (plan_numbers (plan_of held wanted)) s.plan,
+      halves-over 65536 (room_of held wanted) s.room,
+      halves-over 256 (halves 65536 (room_of held wanted)) (halves 65536 s.room),
     )

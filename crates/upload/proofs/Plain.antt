@@ -7,14 +7,14 @@ use native.Mathlib.Omega.{arith}
 use lib.ListN.{length}
 use Rattle.wire.specs.Tables.{bytes}
 use Rattle.wire.proofs.Tables.{length-halves}
-use Rattle.packet.specs.Making.{packetOf}
-use Rattle.upload.specs.Plan.{packetFor, cost, joined, planNumbers, followed}
-use Rattle.upload.specs.Judge.{mapsAfter, totalBytes}
+use Rattle.packet.specs.Making.{packet_of}
+use Rattle.upload.specs.Plan.{packet_for, cost, joined, plan_numbers, followed}
+use Rattle.upload.specs.Judge.{maps_after, total_bytes}
 use Rattle.upload.specs.Parts.{counts}
 use Rattle.upload.specs.Plain.{Pinned}
 
 pub pinned : Pinned
-unfolding mapsAfter totalBytes cost counts planNumbers joined packetFor packetOf followed
+unfolding maps_after total_bytes cost counts plan_numbers joined packet_for packet_of followed
 pinned =
     record {
       maps-0 = λ n m. refl;

@@ -11,7 +11,7 @@ use lib.Seq.{get_or-drop}
 use lib.Dec.{eqb}
 use Rattle.wire.specs.Buffers.{over}
 use Rattle.upload.specs.Cost.{differs, best, rooms, choices}
-use Rattle.upload.specs.Plan.{packetsOf, batchOf}
+use Rattle.upload.specs.Plan.{packets_of, batch_of}
 use Rattle.upload.specs.Judge.{MapOf}
 use Rattle.upload.specs.Plain.{SmallestCount, LeastFrom, RoomMeans, SamePoint, ChoicesMean}
 use Rattle.upload.specs.Planning.{firsts}
@@ -47,8 +47,8 @@ unfolding over
 written_at m l list k h = get_or-append (firsts m l) _ 0 k (omega (arith, length-firsts m l)) ∙ firsts_at m l k h
 
 -- The bytes of the batch for the points from i on, taken as a map of their own.
-abbrev bytesFrom : List ℕ → List ℕ → ℕ → ℕ
-bytesFrom held wanted i = length (batchOf (drop (2 * i) held) (drop (2 * i) wanted))
+abbrev bytes_from : List ℕ → List ℕ → ℕ → ℕ
+bytes_from held wanted i = length (batch_of (drop (2 * i) held) (drop (2 * i) wanted))
 
 module _ (n : ℕ) (held wanted : List ℕ) (h : MapOf n held) (w : MapOf n wanted) where
   abbrev ds : List Bool
@@ -57,7 +57,7 @@ module _ (n : ℕ) (held wanted : List ℕ) (h : MapOf n held) (w : MapOf n want
   all : length ds ≡ n
   all = differs-long n held wanted h.long w.long
 
-  low-bytes : (i : ℕ) → i ≤ n → best 0 (rooms (drop i ds)) ≡ bytesFrom held wanted i
+  low-bytes : (i : ℕ) → i ≤ n → best 0 (rooms (drop i ds)) ≡ bytes_from held wanted i
   low-bytes i l =
       let held' = map-from n held i l h in
       let wanted' = map-from n wanted i l w in
@@ -65,12 +65,12 @@ module _ (n : ℕ) (held wanted : List ℕ) (h : MapOf n held) (w : MapOf n want
       ∙ sym (plan-cost (n - i) (drop (2 * i) held) (drop (2 * i) wanted) held'.long wanted'.long)
       ∙ sym (batch-cost (n - i) (drop (2 * i) held) (drop (2 * i) wanted) held'.long wanted'.long)
 
-  pub least-from : (i : ℕ) → i ≤ n → LeastFrom n held wanted i (bytesFrom held wanted i)
-  unfolding batchOf
+  pub least-from : (i : ℕ) → i ≤ n → LeastFrom n held wanted i (bytes_from held wanted i)
+  unfolding batch_of
   least-from i l =
       let d = demand3 (n - i) (drop (2 * i) held) (drop (2 * i) wanted) (map-from n held i l h) (map-from n wanted i l w) in
       record {
-        packets = packetsOf (drop (2 * i) held) (drop (2 * i) wanted);
+        packets = packets_of (drop (2 * i) held) (drop (2 * i) wanted);
         accepted = d.accepted;
         turns = d.turns;
         total = sym d.bytes;
@@ -102,12 +102,12 @@ module _ (n : ℕ) (held wanted : List ℕ) (h : MapOf n held) (w : MapOf n want
   pub choices-mean : (many : ℕ) (list : List ℕ) → ((k : ℕ) → k < many → get_or list k 0 ≡ get_or (choices ds) k 0) → ChoicesMean n held wanted many list
   choices-mean many list at =
       record {
-        from = bytesFrom held wanted;
+        from = bytes_from held wanted;
         least = least-from;
         differing = λ i l g other.
             let d = point-differs i l other in
             rw (at i (omega arith), choice-at ds i (omega (arith, all)), d)
-            (smallest-by (λ (k : ℕ). best 0 (rooms (drop k ds))) (bytesFrom held wanted) (omega arith) low-bytes (rw all at (smallest-count ds i (omega (arith, all)) d)));
+            (smallest-by (λ (k : ℕ). best 0 (rooms (drop k ds))) (bytes_from held wanted) (omega arith) low-bytes (rw all at (smallest-count ds i (omega (arith, all)) d)));
         same = λ i l g s. at i (omega arith) ∙ choice-at ds i (omega (arith, all)) ∙ rw (point-same i l s);
         beyond = λ i l g. at i (omega arith) ∙ choice-end ds i (omega (arith, all));
       }

@@ -12,9 +12,9 @@ use lib.ListN.{length, take, drop, get_or, set, replicate, length-set, length-dr
 use lib.Seq.{drop-cons, get_or-set_same, get_or-set_other, ext_get_or}
 use Rattle.upload.specs.Cost.{best, rooms, choice, choices}
 use Rattle.upload.specs.Planning.{firsts}
-use Rattle.upload.specs.Internal.{CostBehind, atEnd, Bounded, PointChosen}
+use Rattle.upload.specs.Internal.{CostBehind, at_end, Bounded, PointChosen}
 use Rattle.upload.proofs.Least.{room-at}
-use Rattle.upload.proofs.CostBehind.{carriedFrom, carried-least, carried-choice, carried-small}
+use Rattle.upload.proofs.CostBehind.{carried_from, carried-least, carried-choice, carried-small}
 
 -- The first numbers of a list, 0 where it has no more.
 pub length-firsts : (m : ℕ) (l : List ℕ) → length (firsts m l) ≡ m
@@ -110,13 +110,13 @@ fill_done {list} {wanted} f = ext_get_or 0 list wanted f.long (λ k h. f.alike k
 -- The loop, at point i of those that ds says the difference of, with so many numbers in the room and so many choices.
 pub record Measuring (ds : List Bool) (numbers many : ℕ) (p : CostBehind) (room choices-list : List ℕ) (i : ℕ) : Type 0 where
   pub within : i ≤ length ds
-  pub carried : p ≡ carriedFrom (drop i ds)
+  pub carried : p ≡ carried_from (drop i ds)
   room-from : FilledFrom i room (firsts numbers (rooms ds))
   choices-from : FilledFrom i choices-list (firsts many (choices ds))
 
-pub measure-start : (ds : List Bool) (i : ℕ) {p : CostBehind} {room choices-list : List ℕ} (numbers many : ℕ) → length ds ≡ i → p ≡ atEnd
+pub measure-start : (ds : List Bool) (i : ℕ) {p : CostBehind} {room choices-list : List ℕ} (numbers many : ℕ) → length ds ≡ i → p ≡ at_end
     → room ≡ replicate numbers 0 → choices-list ≡ replicate many 0 → Measuring ds (length room) (length choices-list) p room choices-list i
-unfolding carriedFrom
+unfolding carried_from
 measure-start ds i {room = room} {choices-list = choices-list} numbers many all e r c =
     record {
       within = omega arith;
@@ -138,15 +138,15 @@ measure-small {ds} {i = i} few t = rw t.carried (carried-small (drop i ds) (rw l
 pub measure-turn : {ds : List Bool} {numbers many : ℕ} {p q : CostBehind} {room choices-list room' choices-list' : List ℕ} {d : Bool} {j : ℕ} (i : ℕ) → j ≡ i + 1
     → d ≡ get_or ds i false → PointChosen d p i choices-list q choices-list' → room' ≡ set room i q.least
     → Measuring ds numbers many p room choices-list j → Measuring ds numbers many q room' choices-list' i
-unfolding carriedFrom
+unfolding carried_from
 measure-turn {ds} {numbers} {many} {p} {q} {room} {choices-list} {d = d} i e same step r t =
     let inside : i < length ds = omega (arith, t.within) in
     let rest : List Bool = drop (suc i) ds in
     let here : drop i ds ≡ d ∷ rest = drop-cons ds i false inside ∙ ap (λ (d : Bool). d ∷ rest) (sym same) in
-    let costs : q ≡ carriedFrom (d ∷ rest) = step.carried ∙ rw (t.carried, e, add-one i) in
+    let costs : q ≡ carried_from (d ∷ rest) = step.carried ∙ rw (t.carried, e, add-one i) in
     record {
       within = omega arith;
-      carried = costs ∙ ap carriedFrom (sym here);
+      carried = costs ∙ ap carried_from (sym here);
       room-from =
           rw r
           (fill-turn room (firsts numbers (rooms ds)) i q.least

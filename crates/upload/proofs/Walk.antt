@@ -11,14 +11,14 @@ use lib.ListN.{length, drop, get_or, length-append, drop_of_length-le}
 use lib.Seq.{drop-cons, drop-drop, sets, length-sets}
 use Rattle.packet.proofs.Stores.{sets-sets, sets_over}
 use Rattle.upload.specs.Cost.{rooms, more, choices}
-use Rattle.upload.specs.Plan.{Part, planFrom, followed, planNumbers, cost, packetFor, joined}
+use Rattle.upload.specs.Plan.{Part, plan_from, followed, plan_numbers, cost, packet_for, joined}
 use Rattle.upload.specs.Parts.{part, Fits, InOrder, next}
 use Rattle.upload.specs.Planning.{Followable, PlanWritten}
 use Rattle.upload.proofs.Reading.{meant}
 
 -- Following the choices is the plan.
-pub followed-plan : (i k : ℕ) (ds : List Bool) → followed i k (choices ds) ≡ planFrom i k ds
-unfolding followed choices planFrom
+pub followed-plan : (i k : ℕ) (ds : List Bool) → followed i k (choices ds) ≡ plan_from i k ds
+unfolding followed choices plan_from
 followed-plan i k [] = refl
 followed-plan i (suc k) (d ∷ ds) = followed-plan (suc i) k ds
 followed-plan i zero (false ∷ ds) = followed-plan (suc i) zero ds
@@ -48,20 +48,20 @@ part-fits [] p qs (next l f r) = f
 part-fits (q ∷ ps) p qs (next l f r) = part-fits ps p qs r
 
 -- One part more.
-numbers-next : (ps : List Part) (p : Part) → planNumbers (ps ++ (p ∷ [])) ≡ planNumbers ps ++ (p.start ∷ p.count ∷ [])
-unfolding planNumbers
+numbers-next : (ps : List Part) (p : Part) → plan_numbers (ps ++ (p ∷ [])) ≡ plan_numbers ps ++ (p.start ∷ p.count ∷ [])
+unfolding plan_numbers
 numbers-next [] p = refl
 numbers-next (q ∷ ps) p = rw (numbers-next ps p)
 
-pub length-numbers : (ps : List Part) → length (planNumbers ps) ≡ 2 * length ps
-unfolding planNumbers
+pub length-numbers : (ps : List Part) → length (plan_numbers ps) ≡ 2 * length ps
+unfolding plan_numbers
 length-numbers [] = refl
 length-numbers (p ∷ ps) = omega (arith, length-numbers ps)
 
 batch-next : (w : List ℕ) (ps : List Part) (p : Part)
-    → joined (map (packetFor w) (ps ++ (p ∷ []))) ≡ joined (map (packetFor w) ps) ++ packetFor w p
+    → joined (map (packet_for w) (ps ++ (p ∷ []))) ≡ joined (map (packet_for w) ps) ++ packet_for w p
 unfolding joined
-batch-next w [] p = append-nil (packetFor w p)
+batch-next w [] p = append-nil (packet_for w p)
 batch-next w (q ∷ ps) p = rw (batch-next w ps p, append_assoc)
 
 cost-append : (ps qs : List Part) → cost (ps ++ qs) ≡ cost ps + cost qs
@@ -85,12 +85,12 @@ pub record Walking (w cs plan₀ batch₀ plan batch : List ℕ) (packets size i
   pub few : packets ≤ i
   pub within : i ≤ length cs
   pub costs : size ≡ cost parts
-  pub long : size ≡ length (joined (map (packetFor w) parts))
-  pub planned : plan ≡ sets plan₀ 0 (planNumbers parts)
-  pub batched : batch ≡ sets batch₀ 0 (joined (map (packetFor w) parts))
+  pub long : size ≡ length (joined (map (packet_for w) parts))
+  pub planned : plan ≡ sets plan₀ 0 (plan_numbers parts)
+  pub batched : batch ≡ sets batch₀ 0 (joined (map (packet_for w) parts))
 
 pub walk_start : (w cs plan batch : List ℕ) → Walking w cs plan batch plan batch 0 0 0
-unfolding cost planNumbers joined
+unfolding cost plan_numbers joined
 walk_start w cs plan batch =
     record {
       parts = [];
@@ -159,7 +159,7 @@ module _ {w cs plan₀ batch₀ : List ℕ} (s : Site w cs plan₀ batch₀) whe
 
       -- The packet is in the plan and behind what was filled of the batch.
       pub walk_turn : {plan' batch' : List ℕ} {filled : ℕ} → plan' ≡ sets plan (2 * packets) (i ∷ count ∷ [])
-          → (filled ≡ size + (6 + 4 * count)) × (batch' ≡ sets batch size (packetFor w (part i count)))
+          → (filled ≡ size + (6 + 4 * count)) × (batch' ≡ sets batch size (packet_for w (part i count)))
           → Walking w cs plan₀ batch₀ plan' batch' (packets + 1) filled (i + count)
       unfolding cost
       walk_turn {plan'} {batch'} f (g, h) =
@@ -172,8 +172,8 @@ module _ {w cs plan₀ batch₀ : List ℕ} (s : Site w cs plan₀ batch₀) whe
             within = fits.within;
             costs = rw cost-append (omega (arith, t.costs));
             long = rw (batch-next, length-append) (omega (arith, t.long, (meant (length cs) w new s.wanted-long fits).size));
-            planned = f ∙ rw (t.planned, numbers-next) (sets-sets plan₀ 0 (2 * packets) (planNumbers t.parts) (i ∷ count ∷ []) (omega (arith, t.many, length-numbers t.parts)));
-            batched = h ∙ rw (t.batched, batch-next) (sets-sets batch₀ 0 size (joined (map (packetFor w) t.parts)) (packetFor w new) (omega (arith, t.long)));
+            planned = f ∙ rw (t.planned, numbers-next) (sets-sets plan₀ 0 (2 * packets) (plan_numbers t.parts) (i ∷ count ∷ []) (omega (arith, t.many, length-numbers t.parts)));
+            batched = h ∙ rw (t.batched, batch-next) (sets-sets batch₀ 0 size (joined (map (packet_for w) t.parts)) (packet_for w new) (omega (arith, t.long)));
           }
 
   -- At the end plan and batch are whole.
@@ -188,8 +188,8 @@ module _ {w cs plan₀ batch₀ : List ℕ} (s : Site w cs plan₀ batch₀) whe
         bytes-are = t.long;
         plan-is =
             t.planned
-            ∙ sets_over (planNumbers t.parts) plan₀ (omega (arith, s.can.few, s.plan-long, length-numbers t.parts, t.many, t.few, t.within));
+            ∙ sets_over (plan_numbers t.parts) plan₀ (omega (arith, s.can.few, s.plan-long, length-numbers t.parts, t.many, t.few, t.within));
         batch-is =
             t.batched
-            ∙ sets_over (joined (map (packetFor w) t.parts)) batch₀ (omega (arith, s.can.small, s.batch-long, t.costs, t.long, ap cost whole));
+            ∙ sets_over (joined (map (packet_for w) t.parts)) batch₀ (omega (arith, s.can.small, s.batch-long, t.costs, t.long, ap cost whole));
       })

@@ -1,11 +1,11 @@
 -- Rule 6.2 at work: the counts of the plan for points that differ or not, and its bytes.
 use Rattle.std.specs.Prelude.{ℕ, ◌≡◌, Bool, true, false, List, [], ◌∷◌, ◌++◌, replicate}
-use Rattle.upload.specs.Plan.{planFrom, cost}
+use Rattle.upload.specs.Plan.{plan_from, cost}
 use Rattle.upload.specs.Parts.{part, counts}
 
 pub record PlanExample (ds : List Bool) (packets : List ℕ) (bytes : ℕ) : Type 0 where
-  pub split : counts (planFrom 0 0 ds) ≡ packets
-  pub total : cost (planFrom 0 0 ds) ≡ bytes
+  pub split : counts (plan_from 0 0 ds) ≡ packets
+  pub total : cost (plan_from 0 0 ds) ≡ bytes
 
 pub record Examples : Type 0 where
   -- Rule 8.1: points 0 and 2, in one packet; points 0 and 3, in two.

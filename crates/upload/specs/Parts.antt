@@ -1,7 +1,7 @@
 -- Rules 6.1 and 6.2: the lists of which the plan is one, their order by counts, and the one that is chosen. What the theorems
 -- about the plan and the promise of planning say.
 use Rattle.std.specs.Prelude.{ℕ, ◌+◌, ◌≤◌, ◌<◌, ◌≡◌, ◌⊎◌, List, [], ◌∷◌, map}
-use Rattle.upload.specs.Plan.{Part, cost, packetFor}
+use Rattle.upload.specs.Plan.{Part, cost, packet_for}
 use Rattle.upload.specs.Judge.{Turns}
 
 abbrev pub part : ℕ → ℕ → Part
@@ -32,7 +32,7 @@ pub data Less : List ℕ → List ℕ → Type 0 where
 -- Rules 6.1 and 7.2: a list of parts, in order, that turns held into wanted.
 pub record Uploads (n : ℕ) (held wanted : List ℕ) (ps : List Part) : Type 0 where
   pub in_order : InOrder n 0 ps
-  pub turns : Turns n held wanted (map (packetFor wanted) ps)
+  pub turns : Turns n held wanted (map (packet_for wanted) ps)
 
 -- Rule 6.2: no list is cheaper, and of those as cheap none comes before it.
 pub record Chosen (n : ℕ) (held wanted : List ℕ) (ps : List Part) : Type 0 where

@@ -2,36 +2,36 @@
 -- answers and leaves, and what the names mean that say so. Parts and Judge are plain files too.
 use Rattle.std.specs.Prelude.{ℕ, suc, ◌+◌, ◌-◌, ◌*◌, ◌/◌, ◌%◌, ◌≤◌, ◌<◌, ◌≡◌, ◌↔◌, List, [], ◌∷◌, ◌++◌, map, length, take, drop, get_or}
 use Rattle.wire.specs.Tables.{words, bytes, longs}
-use Rattle.packet.specs.Points.{mapAfter}
-use Rattle.upload.specs.Plan.{Part, cost, packetFor, joined, planNumbers, followed}
-use Rattle.upload.specs.Judge.{mapsAfter, totalBytes, Turns, AllAccepted}
+use Rattle.packet.specs.Points.{map_after}
+use Rattle.upload.specs.Plan.{Part, cost, packet_for, joined, plan_numbers, followed}
+use Rattle.upload.specs.Judge.{maps_after, total_bytes, Turns, AllAccepted}
 use Rattle.upload.specs.Parts.{part, counts, Chosen}
 
 -- ---- What names mean.
 
 pub record Pinned : Type 0 where
   -- Rule 7.1: each packet is given the map that the one before it left.
-  pub maps-0 : (n : ℕ) (m : List ℕ) → mapsAfter n [] m ≡ m
+  pub maps-0 : (n : ℕ) (m : List ℕ) → maps_after n [] m ≡ m
   pub maps-1 : (n : ℕ) (p : List ℕ) (ps : List (List ℕ)) (m : List ℕ)
-      → mapsAfter n (p ∷ ps) m ≡ mapsAfter n ps (mapAfter n p m)
+      → maps_after n (p ∷ ps) m ≡ maps_after n ps (map_after n p m)
   -- Rule 7.2: the bytes of a list of packets.
-  pub total-0 : totalBytes [] ≡ 0
-  pub total-1 : (p : List ℕ) (ps : List (List ℕ)) → totalBytes (p ∷ ps) ≡ length p + totalBytes ps
+  pub total-0 : total_bytes [] ≡ 0
+  pub total-1 : (p : List ℕ) (ps : List (List ℕ)) → total_bytes (p ∷ ps) ≡ length p + total_bytes ps
   -- Rule 6.1: the bytes of a plan, and rule 6.2: its counts.
   pub cost-0 : cost [] ≡ 0
   pub cost-1 : (p : Part) (ps : List Part) → cost (p ∷ ps) ≡ 6 + 4 * p.count + cost ps
   pub counts-0 : counts [] ≡ []
   pub counts-1 : (p : Part) (ps : List Part) → counts (p ∷ ps) ≡ p.count ∷ counts ps
   -- Rule 6.4: start and count in turn.
-  pub numbers-0 : planNumbers [] ≡ []
-  pub numbers-1 : (p : Part) (ps : List Part) → planNumbers (p ∷ ps) ≡ p.start ∷ p.count ∷ planNumbers ps
+  pub numbers-0 : plan_numbers [] ≡ []
+  pub numbers-1 : (p : Part) (ps : List Part) → plan_numbers (p ∷ ps) ≡ p.start ∷ p.count ∷ plan_numbers ps
   -- Rule 6.3: packets one behind the other.
   pub joined-0 : joined [] ≡ []
   pub joined-1 : (p : List ℕ) (ps : List (List ℕ)) → joined (p ∷ ps) ≡ p ++ joined ps
   -- Rule 6.3: header 14h, opcode 34h, the length of the data, the start, and wanted's points. A
   -- point is two numbers of two bytes; `pts` are as many numbers as count says, from the start on.
   pub packet : (wanted : List ℕ) (p : Part) (pts : List ℕ) → pts ≡ take (2 * p.count) (drop (2 * p.start) wanted)
-      → packetFor wanted p
+      → packet_for wanted p
       ≡ 0x14 ∷ 0x34 ∷ (2 + 2 * length pts) % 256 ∷ (2 + 2 * length pts) / 256 ∷ p.start % 256 ∷ p.start / 256 ∷ bytes pts
   -- Rule 6.5: following choices from point i on, with k points still to come in the packet that was
   -- begun last: at 0 one goes on by a point, elsewhere a packet of so many points begins.
@@ -106,8 +106,8 @@ pub record LeastFrom (n : ℕ) (held wanted : List ℕ) (i number : ℕ) : Type 
   pub packets : List (List ℕ)
   pub accepted : AllAccepted (n - i) packets
   pub turns : Turns (n - i) (drop (2 * i) held) (drop (2 * i) wanted) packets
-  pub total : totalBytes packets ≡ number
-  pub least : (ps : List (List ℕ)) → Turns (n - i) (drop (2 * i) held) (drop (2 * i) wanted) ps → number ≤ totalBytes ps
+  pub total : total_bytes packets ≡ number
+  pub least : (ps : List (List ℕ)) → Turns (n - i) (drop (2 * i) held) (drop (2 * i) wanted) ps → number ≤ total_bytes ps
 
 -- Rule 6.5: the first so many numbers of the room.
 pub record RoomMeans (n : ℕ) (held wanted : List ℕ) (numbers : ℕ) (room : List ℕ) : Type 0 where
@@ -152,8 +152,8 @@ pub record Fewest (n : ℕ) (held wanted : List ℕ) (many size : ℕ) (batch : 
   pub back-to-back : joined packets ≡ take size batch
   pub accepted : AllAccepted n packets
   pub turns : Turns n held wanted packets
-  pub total : totalBytes packets ≡ size
-  pub least : (ps : List (List ℕ)) → Turns n held wanted ps → size ≤ totalBytes ps
+  pub total : total_bytes packets ≡ size
+  pub least : (ps : List (List ℕ)) → Turns n held wanted ps → size ≤ total_bytes ps
 
 -- Part k of a plan. Rules 6.3 and 6.4: its start and count are numbers 2k and 2k + 1 of the lent
 -- list, and its packet stands in the batch behind the bytes of the parts before it.
@@ -163,7 +163,7 @@ part_at parts k = get_or parts k (part 0 0)
 pub record PartInLists (wanted : List ℕ) (parts : List Part) (plan batch : List ℕ) (k : ℕ) : Type 0 where
   pub start-at : get_or plan (2 * k) 0 ≡ (part_at parts k).start
   pub count_at : get_or plan (2 * k + 1) 0 ≡ (part_at parts k).count
-  pub packet-at : take (6 + 4 * (part_at parts k).count) (drop (cost (take k parts)) batch) ≡ packetFor wanted (part_at parts k)
+  pub packet-at : take (6 + 4 * (part_at parts k).count) (drop (cost (take k parts)) batch) ≡ packet_for wanted (part_at parts k)
 
 -- Rule 6.2: the lent list begins with the plan: a list of (start, count), as many as answered, that
 -- is chosen, and no other is.
@@ -171,7 +171,7 @@ pub record PlanChosen (n : ℕ) (held wanted : List ℕ) (many size : ℕ) (plan
   pub parts : List Part
   -- Rule 6.4.
   pub as_many : length parts ≡ many
-  pub numbers : planNumbers parts ≡ take (2 * many) plan
+  pub numbers : plan_numbers parts ≡ take (2 * many) plan
   pub placed : (k : ℕ) → k < many → PartInLists wanted parts plan batch k
   -- Rule 6.2.
   pub chosen : Chosen n held wanted parts
@@ -183,7 +183,7 @@ pub record PlanChosen (n : ℕ) (held wanted : List ℕ) (many size : ℕ) (plan
   -- Rule 6.2: the bound on bytes, 8,032 where the map is full.
   pub bound : size ≤ 4 * n + 6 * ((n + 125) / 126)
   -- Rule 6.3: the batch is these parts' packets back to back.
-  pub sent : joined (map (packetFor wanted) parts) ≡ take size batch
+  pub sent : joined (map (packet_for wanted) parts) ≡ take size batch
 
 -- Rules 6.2 to 6.5 and 7.3: what planning that is not refused answers and leaves, for lists of
 -- numbers.

@@ -3,28 +3,28 @@
 use Rattle.std.specs.Prelude.{ℕ}
 
 -- Rule 6.1: the points of a full map, 62 × 32.
-abbrev pub mostPoints : ℕ
-mostPoints = 1984
+abbrev pub most_points : ℕ
+most_points = 1984
 
 -- Rule 6.1: the points of a full packet, and how many of them come behind its first.
-abbrev pub mostCount : ℕ
-mostCount = 126
+abbrev pub most_count : ℕ
+most_count = 126
 
-abbrev pub mostMore : ℕ
-mostMore = 125
+abbrev pub most_more : ℕ
+most_more = 125
 
 -- Rule 6.4: the plan's 16-bit numbers, two for each point of a full map.
-abbrev pub planSize : ℕ
-planSize = 3968
+abbrev pub plan_size : ℕ
+plan_size = 3968
 
 -- Rule 6.4: the working room's 32-bit numbers, one for each of the first points.
-abbrev pub roomSize : ℕ
-roomSize = 127
+abbrev pub room_size : ℕ
+room_size = 127
 
 -- Rule 6.4: the bytes for choices, one for each point of a full map.
-abbrev pub choicesSize : ℕ
-choicesSize = 1984
+abbrev pub choices_size : ℕ
+choices_size = 1984
 
 -- Rules 6.2 and 6.4: the bytes that the batch of a full map has at most.
-abbrev pub batchSize : ℕ
-batchSize = 8032
+abbrev pub batch_size : ℕ
+batch_size = 8032

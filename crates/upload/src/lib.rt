@@ -1,1 +1,2 @@
 // Upload planning: definitions and theorems (see specs/ and proofs/).
+#![tactic(auto)]

@@ -9,47 +9,47 @@ use Rattle.packet.specs.Making.{Made}
 use Rattle.packet.specs.Promises.{PacketRead, PacketMade}
 use Rattle.reply.specs.Answer.{ReplyAnswer}
 use Rattle.reply.specs.Reading.{ReplyRead}
-use Rattle.front_end.specs.Mark.{rowsOut}
+use Rattle.front_end.specs.Mark.{rows_out}
 use Rattle.front_end.specs.Demands.{RowsPromised}
 use Rattle.front_end.proofs.Fresh.{FewRows, told-few}
 use Rattle.front_end_bytes.specs.Bytes.{Lent, LentOut}
 use Rattle.front_end_bytes.specs.Promises.{HandledBytes}
-use Rattle.vermolgas.specs.Packed.{packedReading, PackedRead, packedMade, PackedMake, packedReply, PackedReplyRead}
-use Rattle.vermolgas.specs.Packed.{packedOut, PackedHandled, packedRows, PackedRows}
+use Rattle.vermolgas.specs.Packed.{packed_reading, PackedRead, packed_made, PackedMake, packed_reply, PackedReplyRead}
+use Rattle.vermolgas.specs.Packed.{packed_out, PackedHandled, packed_rows, PackedRows}
 
-pub read-packed : (p : List ℕ) (n : ℕ) (a : Answer) → n ≡ packedReading a
+pub read-packed : (p : List ℕ) (n : ℕ) (a : Answer) → n ≡ packed_reading a
     → (a.number < 256) × (a.opcode < 256) × (a.options < 256) × (a.place < 256) × (a.size < 65536) × (a.fault-place < 65536)
     → PacketRead p a → PackedRead p n
 read-packed p n a e small r =
     record {
-      packed = e ∙ ap packedReading r.outcome;
+      packed = e ∙ ap packed_reading r.outcome;
       plain = record { a = a; bits = e; small = small; plain = r.plain };
       promise = r;
     }
 
-pub make-packed : (op options : ℕ) (d buffer : List ℕ) (n : ℕ) (m : Made) → n ≡ packedMade m
+pub make-packed : (op options : ℕ) (d buffer : List ℕ) (n : ℕ) (m : Made) → n ≡ packed_made m
     → (m.status < 256) × (m.size < 65536) × (m.fault-place < 65536) → PacketMade op options d buffer m → PackedMake op options d buffer n m.buffer
 make-packed op options d buffer n m e small r =
     record {
-      packed = e ∙ ap packedMade r.outcome;
+      packed = e ∙ ap packed_made r.outcome;
       plain = record { status = m.status; size = m.size; fault-place = m.fault-place; bits = e; small = small; plain = r.plain };
       promise = r;
     }
 
-pub reply-packed : (r : List ℕ) (sum : Bool) (n : ℕ) (a : ReplyAnswer) → n ≡ packedReply a
+pub reply-packed : (r : List ℕ) (sum : Bool) (n : ℕ) (a : ReplyAnswer) → n ≡ packed_reply a
     → (a.number < 256) × (a.status < 256) × (a.size < 65536) → ReplyRead r sum a → PackedReplyRead r sum n
 reply-packed r sum n a e small read =
     record {
-      packed = e ∙ ap packedReply read.outcome;
+      packed = e ∙ ap packed_reply read.outcome;
       plain = record { a = a; bits = e; small = small; plain = read.plain };
       promise = read;
     }
 
-pub out-packed : (p : List ℕ) (l : Lent) (reply : List ℕ) (n : ℕ) (o : LentOut) → n ≡ packedOut o
+pub out-packed : (p : List ℕ) (l : Lent) (reply : List ℕ) (n : ℕ) (o : LentOut) → n ≡ packed_out o
     → (o.status < 256) × (o.size < 65536) × (o.fault-place < 65536) → HandledBytes p l reply o → PackedHandled p l reply n o.lent o.reply
 out-packed p l reply n o e small r =
     record {
-      packed = e ∙ ap packedOut r.outcome;
+      packed = e ∙ ap packed_out r.outcome;
       plain = record { status = o.status; size = o.size; fault-place = o.fault-place; bits = e; small = small; plain = r.plain };
       promise = r;
     }
@@ -58,9 +58,9 @@ out-packed p l reply n o e small r =
 pub rows-packed : (block : List ℕ) (n status count lowest : ℕ) → n ≡ status + 256 * count + 65536 * lowest → RowsPromised block status count lowest
     → PackedRows block n
 rows-packed block n status count lowest e r =
-    let few : FewRows (rowsOut status count lowest) = subst FewRows (sym r.outcome) (told-few block) in
+    let few : FewRows (rows_out status count lowest) = subst FewRows (sym r.outcome) (told-few block) in
     record {
-      packed = e ∙ ap packedRows r.outcome;
+      packed = e ∙ ap packed_rows r.outcome;
       plain =
           record {
             status = status;

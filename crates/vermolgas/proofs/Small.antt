@@ -5,16 +5,16 @@ use mathlib.Core.Bool.{Bool, true, false}
 use mathlib.Core.List.{List}
 use native.Mathlib.Omega.{arith}
 use Rattle.front_end.proofs.ReadBack.{size_small, fault-small}
-use Rattle.front_end_bytes.specs.Bytes.{Lent, LentOut, stateIn, byteLengthsRight, stepBytes}
+use Rattle.front_end_bytes.specs.Bytes.{Lent, LentOut, state_in, byte_lengths_right, step_bytes}
 
 pub record Small (o : LentOut) : Type 0 where
   pub size : o.size ≤ 512
   pub fault-place : o.fault-place < 512
 
-pub step-bytes-small : (p : List ℕ) (l : Lent) (reply : List ℕ) → Small (stepBytes p l reply)
-unfolding stepBytes
-step-bytes-small p l reply = go (byteLengthsRight l) refl
+pub step-bytes-small : (p : List ℕ) (l : Lent) (reply : List ℕ) → Small (step_bytes p l reply)
+unfolding step_bytes
+step-bytes-small p l reply = go (byte_lengths_right l) refl
   where
-    go : (b : Bool) → byteLengthsRight l ≡ b → Small (stepBytes p l reply)
-    go true e = rw e (record { size = size_small p (stateIn l) reply; fault-place = fault-small p (stateIn l) reply })
+    go : (b : Bool) → byte_lengths_right l ≡ b → Small (step_bytes p l reply)
+    go true e = rw e (record { size = size_small p (state_in l) reply; fault-place = fault-small p (state_in l) reply })
     go false e = rw e (record { size = omega arith; fault-place = omega arith })

@@ -1,6 +1,8 @@
 // The C entries (include/vermolgas.h): each calls the function that does its work and packs the answer into a number.
+#![tactic(auto)]
+
 ghost use Rattle.std.specs.Prelude.{◌≡◌, not, eqb};
-ghost use Rattle.front_end_bytes.specs.Bytes.{lent, lentReset};
+ghost use Rattle.front_end_bytes.specs.Bytes.{lent, lent_reset};
 ghost use Rattle.front_end_bytes.specs.Promises.{ResetsBytes};
 ghost use Rattle.vermolgas.specs.Packed.{PackedRead, PackedMake, PackedReplyRead, PackedHandled};
 ghost use Rattle.vermolgas.specs.Packed.{PackedRows, PackedCompress, PackedSplit, PackedPlan};
@@ -18,7 +20,7 @@ pub extern "C" fn vermolgas_reset(
 ) -> u64
     ensures { ResetsBytes
         (lent block.old staged.old live.old gains.old)
-        (lentReset result (lent block.new staged.new live.new gains.new)) }
+        (lent_reset result (lent block.new staged.new live.new gains.new)) }
 {
     front_end_bytes::reset(block, staged, live, gains) as u64
 }

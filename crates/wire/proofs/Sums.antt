@@ -7,7 +7,7 @@ use native.Mathlib.Numerals.{add-one}
 use native.Mathlib.Omega.{arith}
 use lib.ListN.{length, take, drop, get_or, length-drop, drop_of_length-le}
 use lib.Seq.{length-take-le, drop-cons, get_or-take}
-use Rattle.wire.specs.Checksum.{secondSum, sumWidth, checksum, weighted, ChecksumAgrees}
+use Rattle.wire.specs.Checksum.{second_sum, sum_width, checksum, weighted, ChecksumAgrees}
 
 -- What a width must be for the low byte: a multiple of 256.
 abbrev LowKept : ℕ → Type 0
@@ -33,21 +33,21 @@ low_turn first second x n rest sum next here there =
 
 -- The low byte of the second sum, from any sums on: the first is added once for each byte to come.
 low : (width : ℕ) → LowKept width → (first second : ℕ) (s : List ℕ)
-    → secondSum width first second s % 256 ≡ (second + length s * first + weighted s) % 256
+    → second_sum width first second s % 256 ≡ (second + length s * first + weighted s) % 256
 low width kept first second [] = omega arith
 low width kept first second (x ∷ r) =
     low width kept _ _ r ∙ low_turn first second x (length r) (weighted r) _ _ (kept (first + x)) (kept (second + (first + x) % width))
 
 -- Sums kept below 256 are low bytes.
-below : (first second : ℕ) (s : List ℕ) → second < 256 → secondSum 256 first second s < 256
+below : (first second : ℕ) (s : List ℕ) → second < 256 → second_sum 256 first second s < 256
 below first second [] h = h
 below first second (x ∷ r) h = below ((first + x) % 256) ((second + (first + x) % 256) % 256) r (omega arith)
 
 pub checksum-agrees : (s : List ℕ) → ChecksumAgrees s
 unfolding checksum
 checksum-agrees s =
-    let wide : secondSum sumWidth 0 0 s % 256 ≡ weighted s % 256 = low sumWidth (λ y. omega arith) 0 0 s ∙ omega arith in
-    let narrow : secondSum 256 0 0 s % 256 ≡ weighted s % 256 = low 256 (λ y. omega arith) 0 0 s ∙ omega arith in
+    let wide : second_sum sum_width 0 0 s % 256 ≡ weighted s % 256 = low sum_width (λ y. omega arith) 0 0 s ∙ omega arith in
+    let narrow : second_sum 256 0 0 s % 256 ≡ weighted s % 256 = low 256 (λ y. omega arith) 0 0 s ∙ omega arith in
     record { narrow = wide ∙ sym narrow ∙ mod-eq_of_lt (below 0 0 s (omega arith)); weighs = wide }
 
 -- ---- The loop that weighs.

@@ -7,9 +7,9 @@ use native.Mathlib.Nat.{zero-add, mul-pos, mod-add-div, mod-lt, mod-eq_of_lt, di
 use native.Mathlib.Omega.{arith}
 use lib.ListN.{length, take, drop, get_or, set, length-drop}
 use lib.Seq.{take-nil, drop-nil, get_or-drop, sets, paste}
-use Rattle.wire.specs.Numbers.{word_at, longAt}
+use Rattle.wire.specs.Numbers.{word_at, long_at}
 use Rattle.wire.specs.Buffers.{over}
-use Rattle.wire.specs.Tables.{pairs, halves, words, longs, longBytes}
+use Rattle.wire.specs.Tables.{pairs, halves, words, longs, long_bytes}
 
 double : (n : ℕ) → 2 * suc n ≡ suc (suc (2 * n))
 double n = omega arith
@@ -127,7 +127,7 @@ number_at s from i h =
     let e : from + 2 * i + 1 ≡ from + (2 * i + 1) = omega arith in
     rw e (simp get_or-drop at (word-at (drop from s) i (rw length-drop (omega arith))))
 
-pub long-at : (s : List ℕ) (i : ℕ) → 4 * i + 3 < length s → longAt s (4 * i) ≡ get_or (longs s) i 0
+pub long-at : (s : List ℕ) (i : ℕ) → 4 * i + 3 < length s → long_at s (4 * i) ≡ get_or (longs s) i 0
 long-at s i h =
     let low : 4 * i ≡ 2 * (2 * i) = omega arith in
     let high : 2 * (2 * i) + 2 ≡ 2 * (2 * i + 1) = omega arith in
@@ -152,7 +152,7 @@ halves-below b (n ∷ l) h (suc zero) = (div-lt_iff_lt-mul (base-pos b (h 0))).1
 halves-below b (n ∷ l) h (suc (suc k)) = halves-below b l (λ j. h (suc j)) k
 
 -- 32-bit numbers: two steps of the same.
-pub bytes-longs : (s : List ℕ) → length s % 4 ≡ 0 → ((k : ℕ) → get_or s k 0 < 256) → longBytes (longs s) ≡ s
+pub bytes-longs : (s : List ℕ) → length s % 4 ≡ 0 → ((k : ℕ) → get_or s k 0 < 256) → long_bytes (longs s) ≡ s
 bytes-longs s e h =
     rw (
       halves_pairs 65536 (words s) (rw length_pairs (omega arith)) (pairs_below 256 s h),

@@ -10,8 +10,8 @@ abbrev pub word_at : List ℕ → ℕ → ℕ
 word_at s i = byte_at s i + 256 * byte_at s (i + 1)
 
 -- The 32-bit number whose lowest byte is at a place.
-abbrev pub longAt : List ℕ → ℕ → ℕ
-longAt s i = word_at s i + 65536 * word_at s (i + 2)
+abbrev pub long_at : List ℕ → ℕ → ℕ
+long_at s i = word_at s i + 65536 * word_at s (i + 2)
 
 -- The two bytes of a 16-bit number.
 abbrev pub word_bytes : ℕ → List ℕ

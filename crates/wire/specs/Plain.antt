@@ -2,8 +2,8 @@
 -- themselves; and what it is to give the first refusal that applies. A reader who believes this
 -- file need not believe the definitions that it speaks of.
 use Rattle.std.specs.Prelude.{ℕ, ◌+◌, ◌*◌, ◌/◌, ◌%◌, ◌<◌, ◌≡◌, ◌⊎◌, List, [], ◌∷◌, ◌++◌, length, drop, get_or}
-use Rattle.wire.specs.Numbers.{byte_at, word_at, longAt, word_bytes}
-use Rattle.wire.specs.Tables.{words, bytes, longs, longBytes}
+use Rattle.wire.specs.Numbers.{byte_at, word_at, long_at, word_bytes}
+use Rattle.wire.specs.Tables.{words, bytes, longs, long_bytes}
 use Rattle.wire.specs.Checksum.{weighted, checksum}
 use Rattle.wire.specs.Buffers.{over}
 
@@ -23,7 +23,7 @@ pub record Pinned : Type 0 where
   pub byte : (s : List ℕ) (i : ℕ) → byte_at s i ≡ get_or s i 0
   pub word : (s : List ℕ) (i : ℕ) → word_at s i ≡ get_or s i 0 + 256 * get_or s (i + 1) 0
   pub long : (s : List ℕ) (i : ℕ)
-      → longAt s i ≡ get_or s i 0 + 256 * get_or s (i + 1) 0 + 65536 * get_or s (i + 2) 0 + 16777216 * get_or s (i + 3) 0
+      → long_at s i ≡ get_or s i 0 + 256 * get_or s (i + 1) 0 + 65536 * get_or s (i + 2) 0 + 16777216 * get_or s (i + 3) 0
   pub word-bytes : (n : ℕ) → word_bytes n ≡ n % 256 ∷ n / 256 ∷ []
   -- Tables of numbers of two bytes, and of four; bytes that make no whole number count for none.
   pub words-0 : words [] ≡ []
@@ -36,9 +36,9 @@ pub record Pinned : Type 0 where
   pub longs-2 : (x y : ℕ) → longs (x ∷ y ∷ []) ≡ []
   pub longs-3 : (x y z : ℕ) → longs (x ∷ y ∷ z ∷ []) ≡ []
   pub longs-4 : (x y z w : ℕ) (r : List ℕ) → longs (x ∷ y ∷ z ∷ w ∷ r) ≡ (x + 256 * y + 65536 * (z + 256 * w)) ∷ longs r
-  pub long-bytes-0 : longBytes [] ≡ []
+  pub long-bytes-0 : long_bytes [] ≡ []
   pub long-bytes-1 : (n : ℕ) (r : List ℕ)
-      → longBytes (n ∷ r) ≡ n % 65536 % 256 ∷ n % 65536 / 256 ∷ n / 65536 % 256 ∷ n / 65536 / 256 ∷ longBytes r
+      → long_bytes (n ∷ r) ≡ n % 65536 % 256 ∷ n % 65536 / 256 ∷ n / 65536 % 256 ∷ n / 65536 / 256 ∷ long_bytes r
   -- Each byte counts once for every byte from it on, and the low byte of the sum is sent.
   pub weights-0 : weighted [] ≡ 0
   pub weights-1 : (x : ℕ) (r : List ℕ) → weighted (x ∷ r) ≡ (length r + 1) * x + weighted r

@@ -24,5 +24,5 @@ bytes l = halves 256 l
 abbrev pub longs : List ℕ → List ℕ
 longs s = pairs 65536 (words s)
 
-abbrev pub longBytes : List ℕ → List ℕ
-longBytes l = bytes (halves 65536 l)
+abbrev pub long_bytes : List ℕ → List ℕ
+long_bytes l = bytes (halves 65536 l)

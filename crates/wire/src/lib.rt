@@ -1,8 +1,10 @@
 // Bytes and numbers: what every layer above reads, sums and copies with.
+#![tactic(auto)]
+
 ghost use Rattle.std.specs.Prelude.{◌≡◌, ◌+◌, ◌*◌, ◌<◌, ◌≤◌, [], ◌∷◌, length, take, drop};
 ghost use Rattle.std.proofs.Math.Seq.{paste};
 ghost use Rattle.std.proofs.lemmas.List.Edits.{sets};
-ghost use Rattle.wire.specs.Numbers.{byte_at, word_at, longAt, word_bytes};
+ghost use Rattle.wire.specs.Numbers.{byte_at, word_at, long_at, word_bytes};
 ghost use Rattle.wire.specs.Checksum.{«checksum», ChecksumAgrees};
 
 // Why a packet was refused: the number of rule 4.1, 0 where it was not; and on refusal 10 the place of the fault (rule 4.6), its offset in the
@@ -75,7 +77,7 @@ pub fn word(s: &[u8], i: usize) -> usize
 
 // The 32-bit number at i, low byte first.
 pub fn long(s: &[u8], i: usize) -> usize
-    ensures { (result ≡ longAt s.now i) × (result < 4294967296) }
+    ensures { (result ≡ long_at s.now i) × (result < 4294967296) }
 {
     if i < s.len() {
         let low = word(s, i);

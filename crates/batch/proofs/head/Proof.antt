@@ -39,7 +39,7 @@ use denote.Exit.{yes}
 use denote.Signature.{named_lft}
 use denote.Signature.Struct.{in_struct, makes}
 use Rattle.wire.specs.Numbers.{word_bytes}
-use Rattle.batch.specs.Internal.{behind, firstWord, HeadFits}
+use Rattle.batch.specs.Internal.{behind, first_word, HeadFits}
 use Rattle.batch.specs.declared.Batch.{Batch}
 use Rattle.batch.specs.contracts.Batch as T
 use Rattle.batch.proofs.Batch.TheLaws as T'
@@ -78,13 +78,13 @@ module _ {M : Type 1} {𝓤 : Ura M} (𝓛 : Logic 𝓤) (mem : Memory → SProp
 
   -- the batch with one number, and with both
   abbrev h₁ : Batch
-  h₁ = behind h (word_bytes (firstWord opcode))
+  h₁ = behind h (word_bytes (first_word opcode))
 
   abbrev h₂ : Batch
   h₂ = behind h₁ (word_bytes size)
 
   long₁ : length h₁.buffer.now ≡ length h.buffer.now
-  long₁ = length-sets h.buffer.now h.filled (word_bytes (firstWord opcode))
+  long₁ = length-sets h.buffer.now h.filled (word_bytes (first_word opcode))
 
   abbrev Arg : Type 0
   Arg = Batch × (ℕ × (ℕ × Unit {0}))
@@ -113,7 +113,7 @@ module _ {M : Type 1} {𝓤 : Ura M} (𝓛 : Logic 𝓤) (mem : Memory → SProp
   exits v =
       qed 𝓛 (token 𝓛 κ q ∷ Own 𝓛 κ q h₂ v ∷ []) ∵
       suffices ! _ (ends_at 𝓛 heads.ended stayed (heads.clauses 𝓛 mem run) (((κ, tt), (q, tt), tt, a, vals), tt) v h₂ ((tt, tt), (tt, (tt, tt))) ((tt, (tt, tt)), (tt, (tt, tt)))) $
-      says ! (behind-behind h (word_bytes (firstWord opcode)) (word_bytes size)) $ frame ! $
+      says ! (behind-behind h (word_bytes (first_word opcode)) (word_bytes size)) $ frame ! $
       nothing ! $ owned ! usize (Is usize) (uint_Makes 𝓛 w64) h.filled _ (refl, n-fits) $ fjoin ! $ nothing ! $ fjoin ! $
       use1 𝓛 (‵ (in_struct (MutSlice (named 0) κ u8 ∷ usize ∷ []) (mach ∷ []) had)) (makes 𝓛 (MutSlice (named 0) κ u8 ∷ usize ∷ []) had (s ∷ [], (vint w64 h.filled ∷ [], tt))) $
       nothing ! $ owned ! usize (Is usize) (uint_Makes 𝓛 w64) size _ (refl, size_fits) $ fjoin ! $ owned ! usize (Is usize) (uint_Makes 𝓛 w64) opcode _ (refl, opcode-fits) $ fjoin ! $ move ! (1 ∷ 0 ∷ []) $ fjoin ! $ done !
@@ -128,13 +128,13 @@ module _ {M : Type 1} {𝓤 : Ura M} (𝓛 : Logic 𝓤) (mem : Memory → SProp
         nothing ! $ use1 𝓛 (raw ((First 𝓛 mem run).pre to-first)) asks-first $
         calls_at ! fm (First 𝓛 mem run) known-first to-first (and_then ! (load ! (from ! (stop !)) (look ! 9 refl)) (no_more !)) (λ w.
         use1 𝓛 (later (some (λ (r : ℕ). (‵ ftrue ⊛ ‵ (usize.own_val r (w ∷ []))) ⊛ raw (ensured 𝓛 firsts.ended (firsts.clauses 𝓛 mem run) tt (opcode, tt) tt r)))) (id⊢ 𝓤 _) $ await ! tt $ pick ! (λ r.
-        split ! $ move ! (1 ∷ []) $ use1 𝓛 (raw (fact 𝓤 (r ≡ firstWord opcode))) (ex_e 𝓤 _ (λ ws. snd∗ 𝓤 (sem 𝓛 (lasts firsts.ended tt (opcode, tt) ws)) (fact 𝓤 (r ≡ firstWord opcode)))) $ heard ! (r ≡ firstWord opcode) (λ e.
-        split ! $ lose ! $ rewrite ! 0 (λ (z : ℕ). ‵ (usize.own_val z (w ∷ []))) e refl $ peeks ! usize (Is usize) (shows 𝓛 usize) (firstWord opcode) (w ∷ []) (λ is.
-        land ! (from ! (stop !)) (init ! 5 refl ((uint_Lawful 𝓛 w64).typed (firstWord opcode) _ is).0) $ rewrite ! 5 (λ (z : Val). ‵ (fat full_share (ty_int w64) l₄ 0 z)) (ap only is.0) refl $ lose ! $
+        split ! $ move ! (1 ∷ []) $ use1 𝓛 (raw (fact 𝓤 (r ≡ first_word opcode))) (ex_e 𝓤 _ (λ ws. snd∗ 𝓤 (sem 𝓛 (lasts firsts.ended tt (opcode, tt) ws)) (fact 𝓤 (r ≡ first_word opcode)))) $ heard ! (r ≡ first_word opcode) (λ e.
+        split ! $ lose ! $ rewrite ! 0 (λ (z : ℕ). ‵ (usize.own_val z (w ∷ []))) e refl $ peeks ! usize (Is usize) (shows 𝓛 usize) (first_word opcode) (w ∷ []) (λ is.
+        land ! (from ! (stop !)) (init ! 5 refl ((uint_Lawful 𝓛 w64).typed (first_word opcode) _ is).0) $ rewrite ! 5 (λ (z : Val). ‵ (fat full_share (ty_int w64) l₄ 0 z)) (ap only is.0) refl $ lose ! $
         assigns ! (of_opd ! (load ! (from ! (stop !)) (look ! 10 refl))) (from ! (stop !)) (init ! 0 refl (typed 𝓛 κ q h mach g)) $
         move ! (15 ∷ []) $ fsplit ! $ move ! (16 ∷ 0 ∷ []) $
         -- [the token; the batch; the numbers; _6; …]
-        word_on 𝓛 κ q mem run h (firstWord opcode) is.1 (omega (arith, fits.0), omega (arith, fits.1)) mach ! fm known-word (and_then ! (load ! (from ! (stop !)) (look ! 2 refl)) (and_then ! (load ! (from ! (stop !)) (look ! 6 refl)) (no_more !))) (λ v₁ is₁.
+        word_on 𝓛 κ q mem run h (first_word opcode) is.1 (omega (arith, fits.0), omega (arith, fits.1)) mach ! fm known-word (and_then ! (load ! (from ! (stop !)) (look ! 2 refl)) (and_then ! (load ! (from ! (stop !)) (look ! 6 refl)) (no_more !))) (λ v₁ is₁.
         land ! (from ! (stop !)) (init ! 5 refl (typed 𝓛 κ q h₁ v₁ is₁)) $
         word_on 𝓛 κ q mem run h₁ size size_fits (omega (arith, long₁, fits.0), fits.2) v₁ ! fm known-word (and_then ! (load ! (from ! (stop !)) (look ! 4 refl)) (and_then ! (load ! (from ! (stop !)) (look ! 8 refl)) (no_more !))) (λ v₂ is₂.
         land ! (from ! (stop !)) (init ! 15 refl ((LL.lawful (T.the_type α) (T'.the_laws α) 𝓛).typed h₂ _ is₂).0) $

@@ -3,8 +3,8 @@ use mathlib.Core.Path.{◌≡◌}
 use mathlib.Core.Bool.{cond, ◌||◌}
 use borrow.Author.Rules.{rules}
 use Rattle.wire.specs.First.{first}
-use Rattle.compressor.specs.Compressing.{countWrong}
-use Rattle.compressor.specs.Internal.{refusalsOf}
+use Rattle.compressor.specs.Compressing.{count_wrong}
+use Rattle.compressor.specs.Internal.{refusals_of}
 use Rattle.compressor.proofs.Outcome.{tens}
 use Rattle.compressor.proofs.refusal.Statement.{statement}
 use Rattle.compressor.proofs.refusal.Tie as tie
@@ -14,11 +14,11 @@ count-wrong-requires c κs = search rules
 
 -- The tests for 10 are one.
 joined : (c : tie.After-count-wrong)
-    → first (refusalsOf c.before.args.odd c.before.args.count c.before.args.large c.before.args.short)
+    → first (refusals_of c.before.args.odd c.before.args.count c.before.args.large c.before.args.short)
     ≡ cond (c.before.args.odd || c.count-wrong.result || c.before.args.large) 10 (cond c.before.args.short 1 0)
 joined c =
     let args = c.before.args in
-    rw c.count-wrong.ensures (tens args.odd (countWrong args.count) args.large (cond args.short 1 0))
+    rw c.count-wrong.ensures (tens args.odd (count_wrong args.count) args.large (cond args.short 1 0))
 
 returns : tie.Need-returns
 returns c = rw (joined c.before, c.if1.true)

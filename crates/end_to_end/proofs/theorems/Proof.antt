@@ -2,7 +2,7 @@
 use mathlib.Core.Path.{refl}
 use native.Mathlib.Omega.{arith}
 use Rattle.wire.specs.Checksum.{checksum}
-use Rattle.front_end.specs.State.{resetState}
+use Rattle.front_end.specs.State.{reset_state}
 use Rattle.front_end.proofs.Demands.{runs, right-running, mark-reset}
 use Rattle.front_end.proofs.Marking.{always-right}
 use Rattle.front_end.proofs.Live.{live-kept}
@@ -25,7 +25,7 @@ returns c =
     record {
       live-kept = live-kept;
       mark-stays = always-right;
-      mark-from-reset = λ xs. always-right xs resetState mark-reset;
+      mark-from-reset = λ xs. always-right xs reset_state mark-reset;
       delivered = λ n held wanted h w s reply l. delivered n held wanted h w s reply (runs s reply (right-running l));
       runs-counted = length-expand;
       gains-delivered = λ colour start ws f s reply l. gains-delivered colour start ws f s reply (runs s reply (right-running l));

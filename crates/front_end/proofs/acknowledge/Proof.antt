@@ -4,7 +4,7 @@ use mathlib.Core.Path.{◌∙◌}
 use native.Mathlib.Omega.{arith}
 use lib.ListN.{length}
 use lib.Dec.{eqb}
-use Rattle.opcode.specs.Options.{hasChecksum}
+use Rattle.opcode.specs.Options.{has_checksum}
 use Rattle.reply.proofs.Laws.{lent-on}
 use Rattle.front_end.proofs.Replies.{no_byte, not-asked, stopped-1, asked, unanswered, answered-status, place-few}
 use borrow.Author.Rules.{rules}
@@ -67,7 +67,7 @@ returns-4 c =
     (asked args.number args.packet.now at_byte.before.if1.false (λ e. at_test.before.if2.false (omega arith)) at_test.if3.false) in
     let put = at_place.put-place.ensures in
     let lent = rw (← put.0) at
-    (lent-on _ args.reply.now at_place.put-place.new.0 (length args.reply.now - 3) (omega (arith, placed at_place)) (omega arith) put.1 (eqb (hasChecksum at_byte.byte.result) 1) args.number) in
+    (lent-on _ args.reply.now at_place.put-place.new.0 (length args.reply.now - 3) (omega (arith, placed at_place)) (omega arith) put.1 (eqb (has_checksum at_byte.byte.result) 1) args.number) in
     rw (same, ← at_byte.byte.ensures.0)
     (at-seal.seal.ensures.0 ∙ lent.0, at-seal.seal.ensures.1 ∙ lent.1)
 

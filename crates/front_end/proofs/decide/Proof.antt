@@ -3,7 +3,7 @@ use Prim.Native.Nat.{◌+◌, ◌≤◌}
 use mathlib.Core.Path.{◌≡◌, sym, subst}
 use native.Mathlib.Omega.{arith}
 use lib.ListN.{length}
-use Rattle.packet.specs.Reading.{commandAt, Answer, reading}
+use Rattle.packet.specs.Reading.{command_at, Answer, reading}
 use Rattle.packet.proofs.Within.{Within, reading-within}
 use Rattle.front_end.proofs.Bounds.{refusal-stands, command-placed}
 use borrow.Author.Rules.{rules}
@@ -12,7 +12,7 @@ use Rattle.front_end.proofs.decide.Tie as tie
 
 -- What the pattern took apart is what reading gives, and lies within the packet.
 command : (c : tie.After-known-told)
-    → commandAt c.before.r.given.0.0 c.before.r.given.0.1.0 c.before.r.given.0.1.1.0
+    → command_at c.before.r.given.0.0 c.before.r.given.0.1.0 c.before.r.given.0.1.1.0
     c.before.r.given.0.1.1.1.0
     ≡ reading c.before.before.before.before.before.before.args.packet.now
 command c = rw c.before.r.given.1 at c.before.before.before.read.ensures.outcome

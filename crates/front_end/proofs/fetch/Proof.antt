@@ -4,8 +4,8 @@ use mathlib.Core.Path.{◌≡◌}
 use native.Mathlib.Omega.{arith}
 use borrow.Author.Tests.{ne_eqb}
 use lib.ListN.{get_or}
-use Rattle.opcode.specs.Commands.{commandOf}
-use Rattle.front_end.specs.Commands.{blockBack, readSmooth}
+use Rattle.opcode.specs.Commands.{command_of}
+use Rattle.front_end.specs.Commands.{block_back, read_smooth}
 use Rattle.front_end.proofs.Bounds.{counts}
 use Rattle.front_end.proofs.Sizes.{known, place-within}
 use borrow.Author.Rules.{rules}
@@ -45,7 +45,7 @@ size-of-requires : tie.Need-size-of-requires
 size-of-requires c κs = search rules
 
 -- It has the size that the list of commands gives it.
-sized : (c : tie.After-size-of) → c.type_size.result ≡ (commandOf c.before.before.before.before.before.before.before.args.opcode).back
+sized : (c : tie.After-size-of) → c.type_size.result ≡ (command_of c.before.before.before.before.before.before.before.args.opcode).back
 sized c =
     let at-start = c.before.before.before.before.before.before.before in
     c.type_size.ensures.carried (known at-start.args.opcode at-start.args.options at-start.args.«data».now at-start.requires.4)
@@ -63,14 +63,14 @@ same_length : tie.Need-same-length
 same_length c = search rules
 
 returns : tie.Need-returns
-unfolding blockBack
+unfolding block_back
 returns c = rw c.before.before.before.before.match.keys1 c.before.before.fetch-shape.ensures
 
 same-length-2 : tie.Need-same-length-2
 same-length-2 c = search rules
 
 returns-2 : tie.Need-returns-2
-unfolding blockBack readSmooth
+unfolding block_back read_smooth
 returns-2 c =
     let at_part = c.before.before in
     let at_high = at_part.before in
@@ -80,7 +80,7 @@ same-length-3 : tie.Need-same-length-3
 same-length-3 c = search rules
 
 returns-3 : tie.Need-returns-3
-unfolding blockBack
+unfolding block_back
 returns-3 c =
     let at_part = c.before.before in
     let at_size = at_part.before in

@@ -3,7 +3,7 @@ use Prim.Native.Nat.{◌≤◌}
 use native.Mathlib.Nat.{mul-le-mul}
 use native.Mathlib.Omega.{arith}
 use borrow.Author.Tests.{eq-eqb, ne_eqb}
-use Rattle.front_end.specs.Commands.{runsPast}
+use Rattle.front_end.specs.Commands.{runs_past}
 use borrow.Author.Rules.{rules}
 use Rattle.front_end.proofs.runs_past.Statement.{statement}
 use Rattle.front_end.proofs.runs_past.Tie as tie
@@ -27,7 +27,7 @@ add-result : tie.Need-overflow-add-result
 add-result c = search rules
 
 returns : tie.Need-returns
-unfolding runsPast
+unfolding runs_past
 returns c =
     let at_rows = c.before in
     let at-columns = at_rows.before in
@@ -44,12 +44,12 @@ gains-past-requires : tie.Need-gains-past-requires
 gains-past-requires c κs = tt
 
 returns-2 : tie.Need-returns-2
-unfolding runsPast
+unfolding runs_past
 returns-2 c =
     simp (ne_eqb _ _ c.before.before.if1.false, eq-eqb _ _ c.before.if2.true, ← c.gains-past.ensures)
 
 returns-3 : tie.Need-returns-3
-unfolding runsPast
+unfolding runs_past
 returns-3 c = simp (ne_eqb _ _ c.before.if1.false, ne_eqb _ _ c.if2.false)
 
 pub runs-past-spec : {M : Type 1} → statement M

@@ -5,9 +5,9 @@ use mathlib.Core.List.{List}
 use native.Mathlib.Omega.{arith}
 use borrow.Author.Tests.{ne_eqb}
 use lib.ListN.{length, get_or}
-use Rattle.opcode.specs.Commands.{commandOf}
-use Rattle.settings.specs.Layout.{placeOf, settingsEnd}
-use Rattle.front_end.specs.Commands.{blockAfter, writeSmooth}
+use Rattle.opcode.specs.Commands.{command_of}
+use Rattle.settings.specs.Layout.{place_of, settings_end}
+use Rattle.front_end.specs.Commands.{block_after, write_smooth}
 use Rattle.front_end.proofs.Bounds.{write-data}
 use Rattle.front_end.proofs.Sizes.{shape_size, smooth-size, known, fixed-rest, place-within, write-whole}
 use borrow.Author.Rules.{rules}
@@ -40,9 +40,9 @@ place-of-requires c κs = search rules
 
 -- The data of any other command ends in what it stores, which has its size.
 record Ends (op : ℕ) (d : List ℕ) (size : ℕ) : Type 0 where
-  sized : size ≡ (commandOf op).back
-  behind : (commandOf op).read + size ≡ length d
-  room : placeOf op d + size ≤ settingsEnd
+  sized : size ≡ (command_of op).back
+  behind : (command_of op).read + size ≡ length d
+  room : place_of op d + size ≤ settings_end
 
 ends : (c : tie.After-size-of) → Ends c.before.before.before.before.args.opcode c.before.before.before.before.args.«data».now c.type_size.result
 ends c =
@@ -68,46 +68,46 @@ copy-requires-2 : tie.Need-copy-requires-2
 copy-requires-2 c κs = let e = ends c.before.before in (omega (arith, e.room), omega (arith, e.behind))
 
 returns : tie.Need-returns
-unfolding blockAfter
+unfolding block_after
 returns c = rw c.match.keys1
 
 returns-2 : tie.Need-returns-2
-unfolding blockAfter
+unfolding block_after
 returns-2 c = rw c.match.keys2
 
 same_length : tie.Need-same-length
 same_length c = search rules
 
 returns-3 : tie.Need-returns-3
-unfolding blockAfter
+unfolding block_after
 returns-3 c = rw c.before.before.before.before.match.keys3 c.before.before.store-shape.ensures
 
 same-length-2 : tie.Need-same-length-2
 same-length-2 c = search rules
 
 returns-4 : tie.Need-returns-4
-unfolding blockAfter
+unfolding block_after
 returns-4 c = rw c.before.before.before.before.match.keys4 c.before.before.store-apply.ensures
 
 same-length-3 : tie.Need-same-length-3
 same-length-3 c = search rules
 
 returns-5 : tie.Need-returns-5
-unfolding blockAfter writeSmooth
+unfolding block_after write_smooth
 returns-5 c = rw c.before.before.before.before.match.keys5 c.before.before.copy.ensures
 
 same-length-4 : tie.Need-same-length-4
 same-length-4 c = search rules
 
 returns-6 : tie.Need-returns-6
-unfolding blockAfter
+unfolding block_after
 returns-6 c =
     let at_copy = c.before.before in
     let at_size = at_copy.before.before.before in
     let rest = at_size.before.match.rest in
     let d = at_size.before.before.before.before.args.«data».now in
     let e = ends at_size in
-    let from : length d - at_size.type_size.result ≡ (commandOf at_size.before.before.before.before.args.opcode).read = omega (arith, e.behind) in
+    let from : length d - at_size.type_size.result ≡ (command_of at_size.before.before.before.before.args.opcode).read = omega (arith, e.behind) in
     rw (
       ne_eqb _ _ rest.0.0.0.0.1,
       ne_eqb _ _ rest.0.0.0.1,

@@ -4,7 +4,7 @@ use mathlib.Core.List.{[], ◌∷◌}
 use native.Mathlib.Omega.{arith}
 use borrow.Author.Tests.{ne_eqb}
 use Rattle.wire.specs.Numbers.{byte_at}
-use Rattle.front_end.specs.Commands.{applyBlock}
+use Rattle.front_end.specs.Commands.{apply_block}
 use Rattle.wire.proofs.Copies.{sets-paste}
 use Rattle.front_end.proofs.Blocks.{shape-applied}
 use borrow.Author.Rules.{rules}
@@ -25,7 +25,7 @@ same_length : tie.Need-same-length
 same_length c = search rules
 
 returns : tie.Need-returns
-unfolding applyBlock
+unfolding apply_block
 returns c =
     let at_copy = c.before.before in
     let at_byte = at_copy.before.before.before.before in
@@ -41,7 +41,7 @@ same-length-2 : tie.Need-same-length-2
 same-length-2 c = search rules
 
 returns-2 : tie.Need-returns-2
-unfolding applyBlock
+unfolding apply_block
 returns-2 c =
     let at_byte = c.before.before in
     let at_test = at_byte.before.before in

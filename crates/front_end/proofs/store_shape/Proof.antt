@@ -4,22 +4,22 @@ use native.Mathlib.Omega.{arith}
 use borrow.Author.Tests.{ne_eqb}
 use lib.ListN.{length}
 use Rattle.wire.specs.Numbers.{byte_at}
-use Rattle.front_end.specs.Commands.{writeShape, shapeBytes}
+use Rattle.front_end.specs.Commands.{write_shape, shape_bytes}
 use Rattle.front_end.proofs.Blocks.{lists-stored}
 use borrow.Author.Rules.{rules}
 use Rattle.front_end.proofs.store_shape.Statement.{statement}
 use Rattle.front_end.proofs.store_shape.Tie as tie
-use Rattle.settings.specs.Layout.{listsSize, shapeHead}
+use Rattle.settings.specs.Layout.{lists_size, shape_head}
 use Prim.Native.Nat.{◌+◌}
 
 -- The size that goes with the mode.
 mode : (c : tie.Then1) → byte_at c.before.before.before.before.args.«data».now 0 ≡ 1
 mode c = sym c.before.byte.ensures.0 ∙ c.if1.true
 
-long : (c : tie.Then1) → length c.before.before.before.before.args.«data».now ≡ 1 + listsSize
+long : (c : tie.Then1) → length c.before.before.before.before.args.«data».now ≡ 1 + lists_size
 long c = rw (mode c) at c.before.before.before.before.requires.1
 
-short : (c : tie.Else1) → length c.before.before.before.before.args.«data».now ≡ shapeHead
+short : (c : tie.Else1) → length c.before.before.before.before.args.«data».now ≡ shape_head
 short c = rw (← c.before.byte.ensures.0, ne_eqb _ _ c.if1.false) at c.before.before.before.before.requires.1
 
 byte-requires : tie.Need-byte-requires
@@ -60,7 +60,7 @@ same-length-2 : tie.Need-same-length-2
 same-length-2 c = search rules
 
 returns-2 : tie.Need-returns-2
-unfolding writeShape shapeBytes
+unfolding write_shape shape_bytes
 returns-2 c =
     let at_copy = c.before.before in
     let at_test = at_copy.before.before in

@@ -5,20 +5,20 @@ use native.Mathlib.Omega.{arith}
 use mathlib.Core.List.{[]}
 use lib.ListN.{length}
 use Rattle.reply.proofs.Laws.{lent-on}
-use Rattle.front_end.specs.State.{dataRoom}
+use Rattle.front_end.specs.State.{data_room}
 use Rattle.front_end.proofs.ReadBack.{back_fits}
-use Rattle.front_end_bytes.specs.Bytes.{lent, stateIn}
+use Rattle.front_end_bytes.specs.Bytes.{lent, state_in}
 use borrow.Author.Rules.{rules}
 use Rattle.front_end_bytes.proofs.answer_read.Statement.{statement}
 use Rattle.front_end_bytes.proofs.answer_read.Tie as tie
 
-fits : (c : tie.After-fetch) → c.fetch.result ≤ dataRoom
+fits : (c : tie.After-fetch) → c.fetch.result ≤ data_room
 fits c =
     let start = c.before.before.before.before.before.before.before in
     let args = start.args in
     let granted = start.requires.0.granted in
     rw c.fetch.ensures.0
-    (back_fits args.opcode args.options args.«data».now (stateIn (lent args.block.now args.staged.now [] args.gains.now)) start.requires.0.reads granted.judged granted.fits granted.settings)
+    (back_fits args.opcode args.options args.«data».now (state_in (lent args.block.now args.staged.now [] args.gains.now)) start.requires.0.reads granted.judged granted.fits granted.settings)
 
 sub-fetch : tie.Need-overflow-sub-fetch
 sub-fetch c = search rules

@@ -1,7 +1,7 @@
 -- The staged bytes, copied whole, are those of the staged numbers; without a copy the live bytes stay.
 use mathlib.Core.Path.{◌∙◌}
 use borrow.Author.Tests.{ne_eqb}
-use Rattle.front_end.specs.Commands.{applyLive}
+use Rattle.front_end.specs.Commands.{apply_live}
 use Rattle.front_end_bytes.proofs.Moves.{lent-words, applied}
 use borrow.Author.Rules.{rules}
 use Rattle.front_end_bytes.proofs.apply.Statement.{statement}
@@ -15,7 +15,7 @@ byte-requires : tie.Need-byte-requires
 byte-requires c κs = search rules
 
 returns-2 : tie.Need-returns-2
-unfolding applyLive
+unfolding apply_live
 returns-2 c = let at-start = c.before.before.before.before.before.before in
     rw (c.before.before.if1.false, ← c.before.byte.ensures.0, ne_eqb _ _ c.if2.true)
     (lent-words at-start.args.live.now 3968 at-start.requires.1 (λ k. (c.before.before.before.slice-known.given k).fits))
@@ -27,7 +27,7 @@ same_length : tie.Need-same-length
 same_length c = search rules
 
 returns-3 : tie.Need-returns-3
-unfolding applyLive
+unfolding apply_live
 returns-3 c = let at_copy = c.before.before in
     let at_test = at_copy.before.before in
     let known = at_test.before.before.before.before in

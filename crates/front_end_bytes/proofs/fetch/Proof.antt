@@ -1,6 +1,6 @@
 -- Points and gains of an accepted read lie within their tables; any other read is of the block.
 use borrow.Author.Tests.{ne_eqb}
-use Rattle.front_end.specs.Commands.{dataBack}
+use Rattle.front_end.specs.Commands.{data_back}
 use Rattle.front_end.proofs.Grants.{reads-points, reads-gains}
 use borrow.Author.Rules.{rules}
 use Rattle.front_end_bytes.proofs.fetch.Statement.{statement}
@@ -15,7 +15,7 @@ same_length : tie.Need-same-length
 same_length c = search rules
 
 returns : tie.Need-returns
-unfolding dataBack
+unfolding data_back
 returns c = rw c.before.before.before.before.if1.true c.before.before.fetch-points.ensures
 
 fetch-gains-requires : tie.Need-fetch-gains-requires
@@ -27,7 +27,7 @@ same-length-2 : tie.Need-same-length-2
 same-length-2 c = search rules
 
 returns-2 : tie.Need-returns-2
-unfolding dataBack
+unfolding data_back
 returns-2 c = rw c.before.before.before.before.if2.true c.before.before.fetch-gains.ensures
 
 fetch-requires : tie.Need-fetch-requires
@@ -37,7 +37,7 @@ same-length-3 : tie.Need-same-length-3
 same-length-3 c = search rules
 
 returns-3 : tie.Need-returns-3
-unfolding dataBack
+unfolding data_back
 returns-3 c =
     let at_test = c.before.before.before.before in
     rw (ne_eqb _ _ at_test.before.if1.false, ne_eqb _ _ at_test.if2.false) c.before.before.fetch.ensures

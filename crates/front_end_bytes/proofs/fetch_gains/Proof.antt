@@ -2,7 +2,7 @@
 use mathlib.Core.Path.{refl, ◌∙◌}
 use Prim.Native.Nat.{◌*◌}
 use native.Mathlib.Omega.{arith}
-use Rattle.front_end.specs.Commands.{readGains}
+use Rattle.front_end.specs.Commands.{read_gains}
 use Rattle.front_end_bytes.proofs.Moves.{fetched}
 use borrow.Author.Rules.{rules}
 use Rattle.front_end_bytes.proofs.fetch_gains.Statement.{statement}
@@ -27,7 +27,7 @@ same_length : tie.Need-same-length
 same_length c = search rules
 
 returns : tie.Need-returns
-unfolding readGains
+unfolding read_gains
 returns c =
     let at_named = c.before.before.before.before.before.before.before in
     let named = at_named.gains-named in

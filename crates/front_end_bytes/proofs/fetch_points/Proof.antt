@@ -2,7 +2,7 @@
 use mathlib.Core.Path.{◌∙◌}
 use Prim.Native.Nat.{◌*◌}
 use native.Mathlib.Omega.{arith}
-use Rattle.front_end.specs.Commands.{readPoints}
+use Rattle.front_end.specs.Commands.{read_points}
 use Rattle.front_end_bytes.proofs.Moves.{fetched}
 use borrow.Author.Rules.{rules}
 use Rattle.front_end_bytes.proofs.fetch_points.Statement.{statement}
@@ -27,7 +27,7 @@ same_length : tie.Need-same-length
 same_length c = search rules
 
 returns : tie.Need-returns
-unfolding readPoints
+unfolding read_points
 returns c =
     let at_named = c.before.before.before.before.before.before.before in
     let named = at_named.points-named in

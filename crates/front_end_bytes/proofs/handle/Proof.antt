@@ -1,6 +1,6 @@
 -- A stopped packet is refusal 1; any other is decided.
 use mathlib.Core.Path.{◌≡◌}
-use Rattle.front_end_bytes.specs.Bytes.{Lent, lent, LentOut, stepBytes}
+use Rattle.front_end_bytes.specs.Bytes.{Lent, lent, LentOut, step_bytes}
 use Rattle.front_end_bytes.specs.Promises.{HandledBytes}
 use Rattle.front_end_bytes.proofs.Ways.{Small, running, stopped-way}
 use Rattle.front_end_bytes.proofs.Promises.{handled-bytes}
@@ -45,7 +45,7 @@ small c =
       gains = λ k. (known.slice-known4.given k).fits;
     }
 
-promised : (c : tie.After-stopped) {o : LentOut} → o ≡ stepBytes (start c).args.packet.now (held c) (start c).args.reply.now
+promised : (c : tie.After-stopped) {o : LentOut} → o ≡ step_bytes (start c).args.packet.now (held c) (start c).args.reply.now
     → HandledBytes (start c).args.packet.now (held c) (start c).args.reply.now o
 promised c e = handled-bytes _ (λ k. (c.before.before.before.before.before.before.before.before.before.before.before.shared-slice-known.given k).fits) (held c) (small c) _ e
 

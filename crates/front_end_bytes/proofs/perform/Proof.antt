@@ -3,7 +3,7 @@ use Prim.Native.Nat.{◌+◌, ◌≤◌}
 use native.Mathlib.Omega.{arith}
 use mathlib.Core.Path.{◌≡◌, refl}
 use lib.ListN.{length}
-use Rattle.opcode.specs.Options.{isRead}
+use Rattle.opcode.specs.Options.{is_read}
 use Rattle.front_end.proofs.Demands.{«lent» as lent-right}
 use Rattle.front_end.proofs.Grants.{inside, granted, answers-read, stores_write}
 use Rattle.front_end_bytes.specs.Bytes.{lent}
@@ -102,7 +102,7 @@ returns-2 c =
     let at_store = at-reply.before.before.before.before.before.before.before.before.before.before in
     let at_test = at_store.before.before.before.before.before in
     let at-start = at_test.before.before.before.before.before.before.before.before in
-    let writes : isRead at-start.args.options ≡ 0 = omega (arith, at_test.if1.false) in
+    let writes : is_read at-start.args.options ≡ 0 = omega (arith, at_test.if1.false) in
     in_bytes _ _ _ at-start.requires.0 at_store.write.ensures (stores_write _ _ _ at-start.requires.1 _ _ _ _ at-start.requires.2 writes refl at-reply.acknowledge.ensures)
 
 pub perform-spec : {M : Type 1} → statement M

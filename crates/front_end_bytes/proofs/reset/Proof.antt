@@ -3,7 +3,7 @@ use mathlib.Core.Path.{◌≡◌, sym, ◌∙◌}
 use mathlib.Core.Bool.{true}
 use native.Mathlib.Omega.{arith}
 use borrow.Author.Tests.{not-true, not-false}
-use Rattle.front_end_bytes.specs.Bytes.{Lent, lent, byteLengthsRight, resetBytes}
+use Rattle.front_end_bytes.specs.Bytes.{Lent, lent, byte_lengths_right, reset_bytes}
 use Rattle.front_end_bytes.specs.Plain.{BytesLent}
 use Rattle.front_end_bytes.proofs.Ways.{sized, reset-way}
 use Rattle.front_end_bytes.proofs.Promises.{resets-bytes}
@@ -17,7 +17,7 @@ held c =
     let args = c.before.before.before.before.before.before.before.before.before.before.args in
     lent args.block.now args.staged.now args.live.now args.gains.now
 
-right : (c : tie.Else1) → byteLengthsRight (held c) ≡ true
+right : (c : tie.Else1) → byte_lengths_right (held c) ≡ true
 right c = sym c.before.lengths-right.ensures ∙ not-false _ c.if1.false
 
 sizes : (c : tie.Else1) → BytesLent (held c)
@@ -39,7 +39,7 @@ same-length-4 : tie.Need-same-length-4
 same-length-4 c = search rules
 
 returns : tie.Need-returns
-unfolding resetBytes
+unfolding reset_bytes
 returns c = resets-bytes _ (rw (sym c.before.lengths-right.ensures ∙ not-true _ c.if1.true))
 
 reset-block-requires : tie.Need-reset-block-requires

@@ -2,7 +2,7 @@
 use mathlib.Core.Path.{◌≡◌, sym, ◌∙◌}
 use mathlib.Core.Bool.{true}
 use borrow.Author.Tests.{not-true, not-false, lt-leb, le-leb}
-use Rattle.front_end_bytes.specs.Bytes.{Lent, lent, byteLengthsRight}
+use Rattle.front_end_bytes.specs.Bytes.{Lent, lent, byte_lengths_right}
 use Rattle.front_end_bytes.specs.Plain.{BytesLent}
 use Rattle.front_end_bytes.proofs.Ways.{sized, stopped_by}
 use borrow.Author.Rules.{rules}
@@ -15,7 +15,7 @@ held c =
     let args = c.before.before.before.before.before.before.before.args in
     lent args.block.now args.staged.now args.live.now args.gains.now
 
-right : (c : tie.Else1) → byteLengthsRight (held c) ≡ true
+right : (c : tie.Else1) → byte_lengths_right (held c) ≡ true
 right c = sym c.before.lengths-right.ensures ∙ not-false _ c.if1.false
 
 sizes : (c : tie.Else1) → BytesLent (held c)

@@ -3,7 +3,7 @@ use mathlib.Core.Path.{sym, ap, ◌∙◌}
 use native.Mathlib.Omega.{arith}
 use borrow.Author.Tests.{ne_eqb}
 use Rattle.wire.specs.Tables.{words, bytes}
-use Rattle.settings.specs.Reset.{gainsSize}
+use Rattle.settings.specs.Reset.{gains_size}
 use Rattle.front_end.specs.Internal.{GainsWrite}
 use Rattle.front_end.proofs.Grants.{gains-one}
 use Rattle.front_end_bytes.proofs.Moves.{lent-words, three-stored}
@@ -18,7 +18,7 @@ returns : tie.Need-returns
 returns c =
     let at-start = c.before.before.before in
     rw (ne_eqb _ _ c.if1.true)
-    (lent-words at-start.args.gains.now gainsSize at-start.requires.1 (λ k. (c.before.slice-known.given k).fits))
+    (lent-words at-start.args.gains.now gains_size at-start.requires.1 (λ k. (c.before.slice-known.given k).fits))
 
 gains-named-requires : tie.Need-gains-named-requires
 gains-named-requires c κs = search rules

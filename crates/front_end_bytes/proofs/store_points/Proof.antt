@@ -2,7 +2,7 @@
 use mathlib.Core.Path.{◌∙◌}
 use native.Mathlib.Omega.{arith}
 use borrow.Author.Tests.{ne_eqb}
-use Rattle.settings.specs.Reset.{mapSize}
+use Rattle.settings.specs.Reset.{map_size}
 use Rattle.front_end_bytes.proofs.Moves.{lent-words, points-stored}
 use borrow.Author.Rules.{rules}
 use Rattle.front_end_bytes.proofs.store_points.Statement.{statement}
@@ -12,7 +12,7 @@ returns : tie.Need-returns
 returns c =
     let at-start = c.before.before.before in
     rw (ne_eqb _ _ c.if1.true)
-    (lent-words at-start.args.staged.now mapSize at-start.requires.1 (λ k. (c.before.slice-known.given k).fits))
+    (lent-words at-start.args.staged.now map_size at-start.requires.1 (λ k. (c.before.slice-known.given k).fits))
 
 points-named-requires : tie.Need-points-named-requires
 points-named-requires c κs = search rules

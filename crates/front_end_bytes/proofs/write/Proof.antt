@@ -3,7 +3,7 @@ use Prim.Native.Nat.{ℕ}
 use mathlib.Core.Path.{◌≡◌, sym, ap, subst, ◌∙◌}
 use mathlib.Core.List.{List}
 use native.Mathlib.Omega.{arith}
-use Rattle.front_end_bytes.specs.Bytes.{Lent, lent, stateIn}
+use Rattle.front_end_bytes.specs.Bytes.{Lent, lent, state_in}
 use Rattle.front_end.specs.Commands.{written}
 use Rattle.front_end.specs.Internal.{MarkGranted}
 use Rattle.front_end.proofs.Fresh.{mark-granted}
@@ -43,7 +43,7 @@ returns c =
     let at_store = c.before.before.before.before.before.before.before.before.before.before.before.before.before.before in
     let args = at_store.before.before.before.before.before.before.before.before.before.before.args in
     marked-bytes args.opcode args.«data».now
-    (written args.opcode args.«data».now (stateIn (lent args.block.now args.staged.now args.live.now args.gains.now))) at_store.store.ensures c.before.before.mark-rows.ensures
+    (written args.opcode args.«data».now (state_in (lent args.block.now args.staged.now args.live.now args.gains.now))) at_store.store.ensures c.before.before.mark-rows.ensures
 
 pub write_spec : {M : Type 1} → statement M
 write_spec =

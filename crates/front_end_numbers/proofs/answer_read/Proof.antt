@@ -5,15 +5,15 @@ use native.Mathlib.Omega.{arith}
 use mathlib.Core.List.{[]}
 use lib.ListN.{length}
 use lib.Dec.{eqb}
-use Rattle.opcode.specs.Options.{hasChecksum}
+use Rattle.opcode.specs.Options.{has_checksum}
 use Rattle.reply.proofs.Laws.{lent-on}
-use Rattle.front_end.specs.State.{dataRoom, state}
+use Rattle.front_end.specs.State.{data_room, state}
 use Rattle.front_end.proofs.ReadBack.{back_fits}
 use borrow.Author.Rules.{rules}
 use Rattle.front_end_numbers.proofs.answer_read.Statement.{statement}
 use Rattle.front_end_numbers.proofs.answer_read.Tie as tie
 
-fits : (c : tie.After-fetch) → c.fetch.result ≤ dataRoom
+fits : (c : tie.After-fetch) → c.fetch.result ≤ data_room
 fits c =
     let start = c.before.before.before.before.before.before.before in
     let args = start.args in
@@ -48,7 +48,7 @@ returns c =
     let args = at-fetch.before.before.before.before.before.before.before.args in
     let fetched = at-fetch.fetch.ensures in
     let lent = rw (← fetched.0) at
-    (lent-on _ args.reply.now at-fetch.fetch.new.0 (length args.reply.now - 3) (omega (arith, fits at-fetch)) (omega arith) fetched.1 (eqb (hasChecksum args.options) 1) 0) in
+    (lent-on _ args.reply.now at-fetch.fetch.new.0 (length args.reply.now - 3) (omega (arith, fits at-fetch)) (omega arith) fetched.1 (eqb (has_checksum args.options) 1) 0) in
     (at-seal.seal.ensures.0 ∙ lent.0, at-seal.seal.ensures.1 ∙ lent.1)
 
 pub answer-read-spec : {M : Type 1} → statement M

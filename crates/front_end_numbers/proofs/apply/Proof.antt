@@ -1,6 +1,6 @@
 -- Unless opcode and data say 36h with 1, live stays; else it is copied whole.
 use borrow.Author.Tests.{ne_eqb}
-use Rattle.front_end.specs.Commands.{applyLive}
+use Rattle.front_end.specs.Commands.{apply_live}
 use borrow.Author.Rules.{rules}
 use Rattle.front_end_numbers.proofs.apply.Statement.{statement}
 use Rattle.front_end_numbers.proofs.apply.Tie as tie
@@ -12,7 +12,7 @@ byte-requires : tie.Need-byte-requires
 byte-requires c κs = search rules
 
 returns-2 : tie.Need-returns-2
-unfolding applyLive
+unfolding apply_live
 returns-2 c = rw (c.before.before.if1.false, ← c.before.byte.ensures.0, ne_eqb _ _ c.if2.true)
 
 copy-words-requires : tie.Need-copy-words-requires
@@ -22,7 +22,7 @@ same_length : tie.Need-same-length
 same_length c = search rules
 
 returns-3 : tie.Need-returns-3
-unfolding applyLive
+unfolding apply_live
 returns-3 c =
     let at_copy = c.before.before in
     let at_test = at_copy.before.before in

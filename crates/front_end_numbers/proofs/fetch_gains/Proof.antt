@@ -1,6 +1,6 @@
 -- The gains that an accepted read names lie within a third of the table, and go out as their bytes.
 use native.Mathlib.Omega.{arith}
-use Rattle.front_end.specs.Commands.{readGains}
+use Rattle.front_end.specs.Commands.{read_gains}
 use Rattle.front_end_numbers.proofs.Returned.{bytes-long}
 use borrow.Author.Rules.{rules}
 use Rattle.front_end_numbers.proofs.fetch_gains.Statement.{statement}
@@ -19,7 +19,7 @@ same_length : tie.Need-same-length
 same_length c = search rules
 
 returns : tie.Need-returns
-unfolding readGains
+unfolding read_gains
 returns c =
     let at_named = c.before.before.before.before.before in
     let named = at_named.gains-named in

@@ -1,7 +1,7 @@
 -- The points that an accepted read names lie within the map, and go out as their bytes.
 use Prim.Native.Nat.{◌*◌}
 use native.Mathlib.Omega.{arith}
-use Rattle.front_end.specs.Commands.{readPoints}
+use Rattle.front_end.specs.Commands.{read_points}
 use Rattle.front_end_numbers.proofs.Returned.{bytes-long}
 use borrow.Author.Rules.{rules}
 use Rattle.front_end_numbers.proofs.fetch_points.Statement.{statement}
@@ -26,7 +26,7 @@ same_length : tie.Need-same-length
 same_length c = search rules
 
 returns : tie.Need-returns
-unfolding readPoints
+unfolding read_points
 returns c =
     let at_named = c.before.before.before.before.before.before.before in
     let named = at_named.points-named in

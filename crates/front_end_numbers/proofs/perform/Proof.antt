@@ -3,7 +3,7 @@ use Prim.Native.Nat.{◌+◌, ◌≤◌}
 use native.Mathlib.Omega.{arith}
 use mathlib.Core.Path.{◌≡◌}
 use lib.ListN.{length}
-use Rattle.opcode.specs.Options.{isRead}
+use Rattle.opcode.specs.Options.{is_read}
 use Rattle.front_end.proofs.Demands.{lent}
 use Rattle.front_end.proofs.Grants.{inside, granted, answers-read, stores_write}
 use borrow.Author.Rules.{rules}
@@ -93,7 +93,7 @@ returns-2 c =
     let at_store = at-reply.before.before.before.before.before.before.before.before.before.before in
     let at_test = at_store.before.before.before.before.before in
     let at-start = at_test.before.before.before.before.before.before.before.before in
-    let writes : isRead at-start.args.options ≡ 0 = omega (arith, at_test.if1.false) in
+    let writes : is_read at-start.args.options ≡ 0 = omega (arith, at_test.if1.false) in
     stores_write _ _ _ at-start.requires.0 _ _ _ _ at-start.requires.1 writes at_store.write.ensures at-reply.acknowledge.ensures
 
 pub perform-spec : {M : Type 1} → statement M

@@ -2,7 +2,7 @@
 use mathlib.Core.Path.{◌≡◌, sym, ◌∙◌}
 use mathlib.Core.Bool.{true}
 use borrow.Author.Tests.{not-true, not-false}
-use Rattle.front_end.specs.State.{State, state, lengthsRight, reset}
+use Rattle.front_end.specs.State.{State, state, lengths_right, reset}
 use Rattle.front_end.proofs.Demands.{state-lent, resets}
 use Rattle.front_end_numbers.proofs.Lent.{map-reset, gains-reset}
 use borrow.Author.Rules.{rules}
@@ -67,7 +67,7 @@ returns-2 c =
     let at_test = at_block.before.before in
     let at-lengths = at_test.before in
     let s = held at-lengths.before.before.before.before.before.before.before.before.before in
-    let lengths : lengthsRight s ≡ true = sym at-lengths.lengths-right.ensures ∙ not-false _ at_test.if1.false in
+    let lengths : lengths_right s ≡ true = sym at-lengths.lengths-right.ensures ∙ not-false _ at_test.if1.false in
     let right = (state-lent s).0 lengths in
     resets s
     (rw (

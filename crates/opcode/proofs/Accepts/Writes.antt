@@ -8,26 +8,26 @@ use native.Mathlib.Omega.{arith}
 use lib.ListN.{get_or}
 use borrow.Author.Tests.{eqb-false, ne_eqb}
 use Rattle.wire.specs.Numbers.{byte_at}
-use Rattle.opcode.specs.Options.{isRead, hasLength}
-use Rattle.opcode.specs.Commands.{commandOf, fixed, variable, notCarried}
-use Rattle.opcode.specs.Judgement.{judgement, unknown, lacksLength}
+use Rattle.opcode.specs.Options.{is_read, has_length}
+use Rattle.opcode.specs.Commands.{command_of, fixed, variable, not_carried}
+use Rattle.opcode.specs.Judgement.{judgement, unknown, lacks_length}
 use Rattle.opcode.specs.Allowed.{WriteData, NeedsLength}
 use Rattle.wire.proofs.Tests.{Silent}
 use Rattle.opcode.proofs.Accepts.Fields.{All, shown}
 use Rattle.opcode.proofs.Accepts.Lists.{bytes_at, exactly}
 use Rattle.opcode.proofs.Accepts.Commands.{◌&◌, of-carried}
-use Rattle.opcode.proofs.Accepts.Passes.{namedWrite, Passes, passes-silent, silent-passes, RightWrite, right-passes, passes-right}
+use Rattle.opcode.proofs.Accepts.Passes.{named_write, Passes, passes-silent, silent-passes, RightWrite, right-passes, passes-right}
 use Rattle.opcode.proofs.Accepts.Varying.{passes-points, points-passes, passes-smooth, smooth-passes, passes-gains, gains-passes, runs-passes, passes-control, shape-passes, joined-lists, lists-passes}
 
 -- ---- From the tests to the data.
 
-fields-only : (op : ℕ) → (commandOf op).kind ≡ fixed
-    → ((d : List ℕ) → All (commandOf op).sets d 0 → WriteData op (bytes_at d 0 (commandOf op).write))
+fields-only : (op : ℕ) → (command_of op).kind ≡ fixed
+    → ((d : List ℕ) → All (command_of op).sets d 0 → WriteData op (bytes_at d 0 (command_of op).write))
     → (d : List ℕ) → Passes op d → WriteData op d
-fields-only op m f d p = shown (WriteData op) (commandOf op).write (commandOf op).sets f d (passes-right op d m p)
+fields-only op m f d p = shown (WriteData op) (command_of op).write (command_of op).sets f d (passes-right op d m p)
 
 passes-colour : (d : List ℕ) → Passes 0x1A d → WriteData 0x1A d
-unfolding commandOf
+unfolding command_of
 passes-colour d p =
     let r = passes-right 0x1A d refl p in
     elim (dec_le 2 (get_or d 0 0)) [
@@ -36,14 +36,14 @@ passes-colour d p =
     ]
 
 passes-update : (d : List ℕ) → Passes 0x39 d → WriteData 0x39 d
-unfolding commandOf
+unfolding command_of
 passes-update d p =
     let r = passes-right 0x39 d refl p in
-    let e : get_or d 0 0 ≡ 0 = omega (arith, eqb-false (byte_at d 0) 1 p.namedOnly) in
+    let e : get_or d 0 0 ≡ 0 = omega (arith, eqb-false (byte_at d 0) 1 p.named_only) in
     rw (exactly d 1 r.sized, e) WriteData.update
 
 passes-pwm : (d : List ℕ) → Passes 0x65 d → WriteData 0x65 d
-unfolding commandOf
+unfolding command_of
 passes-pwm d p =
     let r = passes-right 0x65 d refl p in
     elim (dec_le (get_or d 0 0) 10) [
@@ -52,7 +52,7 @@ passes-pwm d p =
     ]
 
 passes-data : (op : ℕ) → unknown op ≡ false → (d : List ℕ) → Passes op d → WriteData op d
-unfolding commandOf
+unfolding command_of
 passes-data =
     of-carried (λ op. (d : List ℕ) → Passes op d → WriteData op d)
     (fields-only 0x11 refl (λ d a. search (WriteData.display, arith))
@@ -79,18 +79,18 @@ passes-data =
 
 -- What data that is right tells of its opcode and of the tests.
 record Good (op : ℕ) (d : List ℕ) : Type 0 where
-  carried : 0 < (commandOf op).kind
-  needs : (commandOf op).kind ≡ variable → NeedsLength op
+  carried : 0 < (command_of op).kind
+  needs : (command_of op).kind ≡ variable → NeedsLength op
   passes : Passes op d
 
-right-good : {op : ℕ} {d : List ℕ} → (commandOf op).kind ≡ fixed → RightWrite op d → namedWrite op d ≡ false → Good op d
+right-good : {op : ℕ} {d : List ℕ} → (command_of op).kind ≡ fixed → RightWrite op d → named_write op d ≡ false → Good op d
 right-good m r n = record { carried = omega arith; needs = λ v. absurd (omega arith); passes = right-passes m r n }
 
-varying-good : {op : ℕ} {d : List ℕ} → (commandOf op).kind ≡ variable → NeedsLength op → Passes op d → Good op d
+varying-good : {op : ℕ} {d : List ℕ} → (command_of op).kind ≡ variable → NeedsLength op → Passes op d → Good op d
 varying-good m n p = record { carried = omega arith; needs = λ v. n; passes = p }
 
 data-good : {op : ℕ} {d : List ℕ} → ((k : ℕ) → get_or d k 0 < 256) → WriteData op d → Good op d
-unfolding commandOf
+unfolding command_of
 data-good b (WriteData.display h) = right-good refl (omega arith) refl
 data-good b (WriteData.latency h) = right-good refl (omega arith) refl
 data-good b (WriteData.freeze h) = right-good refl (omega arith) refl
@@ -119,8 +119,8 @@ data-good b (WriteData.runs h i e s) =
 
 -- ---- The length field.
 
-pub needs-variable : {op : ℕ} → NeedsLength op → (commandOf op).kind ≡ variable
-unfolding commandOf
+pub needs-variable : {op : ℕ} → NeedsLength op → (command_of op).kind ≡ variable
+unfolding command_of
 needs-variable NeedsLength.write-2B = refl
 needs-variable NeedsLength.write-34 = refl
 needs-variable NeedsLength.write-35 = refl
@@ -128,22 +128,22 @@ needs-variable NeedsLength.write-38 = refl
 
 -- ---- The writes.
 
-pub write-silent : (op o : ℕ) (d : List ℕ) → ((k : ℕ) → get_or d k 0 < 256) → isRead o ≡ 0 → WriteData op d
-    → (NeedsLength op → hasLength o ≡ 1) → Silent (judgement op o d)
+pub write-silent : (op o : ℕ) (d : List ℕ) → ((k : ℕ) → get_or d k 0 < 256) → is_read o ≡ 0 → WriteData op d
+    → (NeedsLength op → has_length o ≡ 1) → Silent (judgement op o d)
 unfolding judgement
 write-silent op o d b h w l =
     let g = data-good b w in
-    passes-silent op o d h (ne_eqb (commandOf op).kind notCarried (omega (arith, g.carried))) lacks g.passes
+    passes-silent op o d h (ne_eqb (command_of op).kind not_carried (omega (arith, g.carried))) lacks g.passes
   where
-    lacks : lacksLength op o ≡ false
+    lacks : lacks_length op o ≡ false
     lacks =
-        elim (ℕ_discrete (commandOf op).kind variable)
-        [ yes v ↦ rw (h, v, l ((data-good b w).needs v)) | no v ↦ rw (h, ne_eqb (commandOf op).kind variable v) ]
+        elim (ℕ_discrete (command_of op).kind variable)
+        [ yes v ↦ rw (h, v, l ((data-good b w).needs v)) | no v ↦ rw (h, ne_eqb (command_of op).kind variable v) ]
 
-pub silent-write : (op o : ℕ) (d : List ℕ) → isRead o ≡ 0 → Silent (judgement op o d) → WriteData op d
+pub silent-write : (op o : ℕ) (d : List ℕ) → is_read o ≡ 0 → Silent (judgement op o d) → WriteData op d
 unfolding judgement
 silent-write op o d h s = passes-data op s.0 d (silent-passes op o d h s)
 
-pub silent-length : (op o : ℕ) (d : List ℕ) → isRead o ≡ 0 → Silent (judgement op o d) → NeedsLength op → hasLength o ≡ 1
+pub silent-length : (op o : ℕ) (d : List ℕ) → is_read o ≡ 0 → Silent (judgement op o d) → NeedsLength op → has_length o ≡ 1
 unfolding judgement
-silent-length op o d h s n = omega (arith, eqb-false (hasLength o) 0 (rw (h, needs-variable n) at s.1.0))
+silent-length op o d h s n = omega (arith, eqb-false (has_length o) 0 (rw (h, needs-variable n) at s.1.0))

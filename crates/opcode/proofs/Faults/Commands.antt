@@ -5,23 +5,23 @@ use mathlib.Core.Bool.{false}
 use mathlib.Core.List.{List}
 use native.Mathlib.Omega.{arith}
 use lib.ListN.{length, get_or}
-use Rattle.opcode.specs.Options.{isRead}
-use Rattle.opcode.specs.Fields.{from-to}
-use Rattle.opcode.specs.Commands.{commandOf, fixed}
+use Rattle.opcode.specs.Options.{is_read}
+use Rattle.opcode.specs.Fields.{from_to}
+use Rattle.opcode.specs.Commands.{command_of, fixed}
 use Rattle.opcode.specs.Judgement.{unknown}
 use Rattle.opcode.specs.Faults.{ReadField, WriteField, FieldOf}
 use Rattle.wire.proofs.Tests.{told}
 use Rattle.gain_words.proofs.Places.{run-range, gain-range}
 use Rattle.opcode.proofs.Accepts.Fields.{All, Within}
 use Rattle.opcode.proofs.Accepts.Commands.{◌&◌, of-carried, sets-span, sets-sized}
-use Rattle.opcode.proofs.Accepts.Passes.{writeSizeWrong, writeFault}
+use Rattle.opcode.proofs.Accepts.Passes.{write_size_wrong, write_fault}
 use Rattle.opcode.proofs.Faults.Fields.{up_to, reached, IfWrong, stopped, FaultAt, wrong, wrong-but}
 use Rattle.opcode.proofs.Faults.Varying.{smooth-before, smooth-at, gains-before, word-before, gains-at, mode-before, shape-before, column-before, row_before, control-at}
 
 -- ---- Reads.
 
-pub read-before : {d : List ℕ} {op j v low high : ℕ} → ReadField d op j v low high → All (up_to j (commandOf op).asks) d 0 → (low ≤ v) × (v ≤ high)
-unfolding commandOf
+pub read-before : {d : List ℕ} {op j v low high : ℕ} → ReadField d op j v low high → All (up_to j (command_of op).asks) d 0 → (low ≤ v) × (v ≤ high)
+unfolding command_of
 read-before ReadField.gain-colour a = omega arith
 read-before ReadField.gain-count a = omega arith
 read-before ReadField.point-count a = omega arith
@@ -31,14 +31,14 @@ read-before (ReadField.pwm-port n) a = omega arith
 read-before ReadField.uart-port a = omega arith
 
 -- A start is any number.
-module _ (o : ℕ) (d : List ℕ) (b : (k : ℕ) → get_or d k 0 < 256) (h : isRead o ≡ 1) where
-  out : {op place v low high size : ℕ} → ReadField d op place v low high → ¬ Within (from-to size low high) v → FaultAt op o d place
+module _ (o : ℕ) (d : List ℕ) (b : (k : ℕ) → get_or d k 0 < 256) (h : is_read o ≡ 1) where
+  out : {op place v low high size : ℕ} → ReadField d op place v low high → ¬ Within (from_to size low high) v → FaultAt op o d place
   out f = wrong (FieldOf.asks h f)
 
-  pub read-wrong : (op : ℕ) → unknown op ≡ false → IfWrong (FaultAt op o d) (commandOf op).asks d 0
-  unfolding commandOf
+  pub read-wrong : (op : ℕ) → unknown op ≡ false → IfWrong (FaultAt op o d) (command_of op).asks d 0
+  unfolding command_of
   read-wrong =
-      of-carried (λ op. IfWrong (FaultAt op o d) (commandOf op).asks d 0)
+      of-carried (λ op. IfWrong (FaultAt op o d) (command_of op).asks d 0)
       (tt & tt & tt & tt & tt & tt & tt
       & (out ReadField.gain-colour & (λ w. absurd (w (omega (arith, b 1, b 2)))) & out ReadField.gain-count & tt)
       & ((λ w. absurd (w (omega (arith, b 0, b 1)))) & out ReadField.point-count & tt)
@@ -52,19 +52,19 @@ module _ (o : ℕ) (d : List ℕ) (b : (k : ℕ) → get_or d k 0 < 256) (h : is
 
 -- ---- Writes. Data of a fixed size is all fields.
 
-fixed-long : (op : ℕ) (d : List ℕ) → (commandOf op).kind ≡ fixed → writeSizeWrong op d ≡ false → length d ≡ (commandOf op).write
+fixed-long : (op : ℕ) (d : List ℕ) → (command_of op).kind ≡ fixed → write_size_wrong op d ≡ false → length d ≡ (command_of op).write
 fixed-long op d m size = let s = rw m at size in search told
 
-fixed-before : (op : ℕ) (d : List ℕ) (j : ℕ) → writeSizeWrong op d ≡ false → min (suc j) (length d) ≤ writeFault op d
-    → (commandOf op).kind ≡ fixed → All (up_to j (commandOf op).sets) d 0
+fixed-before : (op : ℕ) (d : List ℕ) (j : ℕ) → write_size_wrong op d ≡ false → min (suc j) (length d) ≤ write_fault op d
+    → (command_of op).kind ≡ fixed → All (up_to j (command_of op).sets) d 0
 fixed-before op d j size h m =
     let behind = rw m at h in
-    reached (commandOf op).sets (sets-sized op) d 0 j (omega (arith, fixed-long op d m size, sets-span op (omega arith)))
+    reached (command_of op).sets (sets-sized op) d 0 j (omega (arith, fixed-long op d m size, sets-span op (omega arith)))
 
 module _ {d : List ℕ} (b : (k : ℕ) → get_or d k 0 < 256) where
-  field-right : {op j v low high : ℕ} → WriteField d op j v low high → ((commandOf op).kind ≡ fixed → All (up_to j (commandOf op).sets) d 0)
-      → writeSizeWrong op d ≡ false → min (suc j) (length d) ≤ writeFault op d → (low ≤ v) × (v ≤ high)
-  unfolding commandOf
+  field-right : {op j v low high : ℕ} → WriteField d op j v low high → ((command_of op).kind ≡ fixed → All (up_to j (command_of op).sets) d 0)
+      → write_size_wrong op d ≡ false → min (suc j) (length d) ≤ write_fault op d → (low ≤ v) × (v ≤ high)
+  unfolding command_of
   field-right WriteField.display a s m = omega (arith, a refl)
   field-right WriteField.latency a s m = omega (arith, a refl)
   field-right (WriteField.curtain n) a s m = omega (arith, a refl)
@@ -108,25 +108,25 @@ module _ {d : List ℕ} (b : (k : ℕ) → get_or d k 0 < 256) where
   field-right WriteField.polarity a s m = omega (arith, a refl)
   field-right WriteField.source a s m = omega (arith, a refl)
 
-  pub write-before : {op j v low high : ℕ} → writeSizeWrong op d ≡ false → min (suc j) (length d) ≤ writeFault op d
+  pub write-before : {op j v low high : ℕ} → write_size_wrong op d ≡ false → min (suc j) (length d) ≤ write_fault op d
       → WriteField d op j v low high → (low ≤ v) × (v ≤ high)
   write-before {op} {j} s m f = field-right f (fixed-before op d j s m) s m
 
 -- Look, splash and starts are any number.
-module _ (o : ℕ) (d : List ℕ) (b : (k : ℕ) → get_or d k 0 < 256) (h : isRead o ≡ 0) where
+module _ (o : ℕ) (d : List ℕ) (b : (k : ℕ) → get_or d k 0 < 256) (h : is_read o ≡ 0) where
   abbrev Found : ℕ → Type 0
-  Found op = writeSizeWrong op d ≡ false → writeFault op d < length d → FaultAt op o d (writeFault op d)
+  Found op = write_size_wrong op d ≡ false → write_fault op d < length d → FaultAt op o d (write_fault op d)
 
-  fixed-at : (op : ℕ) → (commandOf op).kind ≡ fixed → IfWrong (FaultAt op o d) (commandOf op).sets d 0 → Found op
+  fixed-at : (op : ℕ) → (command_of op).kind ≡ fixed → IfWrong (FaultAt op o d) (command_of op).sets d 0 → Found op
   fixed-at op m p s k =
       let inside = rw m at k in
-      rw m (stopped (FaultAt op o d) (commandOf op).sets d 0 p (omega (arith, fixed-long op d m s, sets-span op (omega arith))))
+      rw m (stopped (FaultAt op o d) (command_of op).sets d 0 p (omega (arith, fixed-long op d m s, sets-span op (omega arith))))
 
-  set : {op place v low high size : ℕ} → WriteField d op place v low high → ¬ Within (from-to size low high) v → FaultAt op o d place
+  set : {op place v low high size : ℕ} → WriteField d op place v low high → ¬ Within (from_to size low high) v → FaultAt op o d place
   set f = wrong (FieldOf.sets h f)
 
   pub write-at : (op : ℕ) → unknown op ≡ false → Found op
-  unfolding commandOf
+  unfolding command_of
   write-at =
       of-carried Found
       (fixed-at 0x11 refl (set WriteField.display & tt)

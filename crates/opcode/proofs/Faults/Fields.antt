@@ -9,7 +9,7 @@ use native.Mathlib.Omega.{arith}
 use lib.Dec.{leb, ltb}
 use borrow.Author.Tests.{le-leb, lt-leb, lt-ltb, le-ltb}
 use Rattle.opcode.specs.declared.Field.{Field}
-use Rattle.opcode.specs.Fields.{from-to, number, fault}
+use Rattle.opcode.specs.Fields.{from_to, number, fault}
 use Rattle.opcode.specs.Faults.{FieldOf}
 use Rattle.opcode.proofs.Accepts.Fields.{span, least, All, Within, within?, fault_past, fault-here}
 
@@ -80,7 +80,7 @@ fault-of {v = v} {low = low} {high = high} f h =
     record { value = v; least = low; most = high; field = f; out = outside v low high h }
 
 -- Such a field, from one of a run that does not take its number: with the same range; or, with a number apart, with both the range and that number.
-pub wrong : {op o : ℕ} {d : List ℕ} {place v low high size : ℕ} → FieldOf op o d place v low high → ¬ Within (from-to size low high) v
+pub wrong : {op o : ℕ} {d : List ℕ} {place v low high size : ℕ} → FieldOf op o d place v low high → ¬ Within (from_to size low high) v
     → FaultAt op o d place
 wrong f w = fault-of f (λ r. w (omega arith))
 

@@ -6,9 +6,9 @@ use native.Mathlib.Decide.{ℕ_discrete}
 use native.Mathlib.Omega.{arith}
 use borrow.Author.Tests.{ne_eqb}
 use lib.Dec.{eqb}
-use Rattle.opcode.specs.Options.{hasLength}
+use Rattle.opcode.specs.Options.{has_length}
 use Rattle.wire.specs.Numbers.{word_at}
-use Rattle.packet.specs.Frame.{headerOf, lengthPlace, announced}
+use Rattle.packet.specs.Frame.{header_of, length_place, announced}
 use Rattle.packet.proofs.Plain.{announced-plain}
 use borrow.Author.Rules.{rules}
 use Rattle.packet.proofs.announced.Statement.{statement}
@@ -21,18 +21,18 @@ taken bit word value h e =
       | no other ↦ let none : bit ≡ 0 = omega arith in rw none (omega (arith, rw (ne_eqb bit 1 other) at e))
     ]
 
-is-header : (c : tie.After-header) → c.header.result.value ≡ headerOf c.before.before.before.args.bytes.now
+is-header : (c : tie.After-header) → c.header.result.value ≡ header_of c.before.before.before.args.bytes.now
 is-header c = c.header.ensures.0 ∙ rw c.before.new.ensures
 
 -- What the length field holds, 0 where there is none.
 counted : (c : tie.After-length)
     → let p = c.before.before.before.before.before.args.bytes.now in
-    c.length.result.value ≡ hasLength (headerOf p) * word_at p (lengthPlace (headerOf p))
+    c.length.result.value ≡ has_length (header_of p) * word_at p (length_place (header_of p))
 counted c =
     let start = c.before.before in
     let p = start.before.before.before.args.bytes.now in
-    let place : c.before.opcode.result.next.at ≡ lengthPlace (headerOf p) = omega (arith, is-header start) in
-    taken (hasLength (headerOf p)) (word_at p (lengthPlace (headerOf p))) c.length.result.value (omega arith)
+    let place : c.before.opcode.result.next.at ≡ length_place (header_of p) = omega (arith, is-header start) in
+    taken (has_length (header_of p)) (word_at p (length_place (header_of p))) c.length.result.value (omega arith)
     (rw (is-header start, place) at c.length.ensures.0)
 
 new-requires : tie.Need-new-requires

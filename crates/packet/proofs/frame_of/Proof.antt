@@ -8,51 +8,51 @@ use borrow.Author.Tests.{lt-ltb, le-ltb, eq-eqb, ne_eqb}
 use lib.ListN.{length}
 use lib.Dec.{eqb}
 use Rattle.wire.specs.Numbers.{word_at}
-use Rattle.opcode.specs.Options.{hasLength}
-use Rattle.packet.specs.Frame.{headerOf, lengthPlace, fields, dataSize}
-use Rattle.packet.specs.Reading.{tooShort, tooLong, lengthDiffers, checksumDiffers}
+use Rattle.opcode.specs.Options.{has_length}
+use Rattle.packet.specs.Frame.{header_of, length_place, fields, data_size}
+use Rattle.packet.specs.Reading.{too_short, too_long, length_differs, checksum_differs}
 use Rattle.packet.proofs.Frames.{framed-by, stand-in, standing-as}
 use Rattle.packet.proofs.frame_of.Statement.{statement}
 use Rattle.packet.proofs.frame_of.Tie as tie
 
 -- What the cursor's first step took, and the number of data bytes that the code computes from it.
-is-header : (c : tie.After-header) → c.header.result.value ≡ headerOf c.before.before.before.args.packet.now
+is-header : (c : tie.After-header) → c.header.result.value ≡ header_of c.before.before.before.args.packet.now
 is-header c = c.header.ensures.0 ∙ rw c.before.new.ensures
 
-is-fields : (c : tie.After-fields) → c.fields.result ≡ fields (headerOf c.before.before.before.before.args.packet.now)
+is-fields : (c : tie.After-fields) → c.fields.result ≡ fields (header_of c.before.before.before.before.args.packet.now)
 is-fields c = c.fields.ensures ∙ rw (is-header c.before)
 
 is-size : (c : tie.After-fields)
-    → length c.before.before.before.before.args.packet.now - c.fields.result ≡ dataSize c.before.before.before.before.args.packet.now
+    → length c.before.before.before.before.args.packet.now - c.fields.result ≡ data_size c.before.before.before.before.args.packet.now
 is-size c = rw (is-fields c)
 
 -- The tests that failed, one by one.
-no-2 : (c : tie.Else1) → tooShort c.before.before.before.before.before.args.packet.now ≡ false
+no-2 : (c : tie.Else1) → too_short c.before.before.before.before.before.args.packet.now ≡ false
 no-2 c = le-ltb _ _ (rw (is-fields c.before) at c.if1.false)
 
-no-3 : (c : tie.Else2) → tooLong c.before.before.before.before.before.before.args.packet.now ≡ false
+no-3 : (c : tie.Else2) → too_long c.before.before.before.before.before.before.args.packet.now ≡ false
 no-3 c = le-ltb _ _ c.if2.false
 
-at_length : (c : tie.After-opcode) → c.opcode.result.next.at ≡ lengthPlace (headerOf c.before.before.before.before.before.before.before.args.packet.now)
+at_length : (c : tie.After-opcode) → c.opcode.result.next.at ≡ length_place (header_of c.before.before.before.before.before.before.before.args.packet.now)
 at_length c = omega (arith, is-header c.before.before.before.before)
 
 -- The length that was taken is compared as the definition has it.
 sized : (c : tie.After-length) (b : Bool)
-    → eqb c.length.result.value (dataSize c.before.before.before.before.before.before.before.before.args.packet.now) ≡ b
-    → lengthDiffers c.before.before.before.before.before.before.before.before.args.packet.now ≡ not b
+    → eqb c.length.result.value (data_size c.before.before.before.before.before.before.before.before.args.packet.now) ≡ b
+    → length_differs c.before.before.before.before.before.before.before.before.args.packet.now ≡ not b
 sized c b e =
     let start = c.before.before.before.before.before in
     let p = start.before.before.before.args.packet.now in
-    stand-in (eqb (hasLength (headerOf p)) 1) (word_at p (lengthPlace (headerOf p))) (dataSize p) c.length.result.value
+    stand-in (eqb (has_length (header_of p)) 1) (word_at p (length_place (header_of p))) (data_size p) c.length.result.value
     (rw (is-fields c.before.before.before.before, is-header start, at_length c.before) at c.length.ensures.0)
     ∙ ap not e
 
-no-4 : (c : tie.Else3) → lengthDiffers c.before.before.before.before.before.before.before.before.before.before.args.packet.now ≡ false
+no-4 : (c : tie.Else3) → length_differs c.before.before.before.before.before.before.before.before.before.before.args.packet.now ≡ false
 no-4 c =
     let taken = c.before.before in
     sized taken true (eq-eqb _ _ (c.if3.false ∙ is-size taken.before.before.before.before))
 
-no-5 : (c : tie.Else4) → checksumDiffers c.before.before.before.before.before.before.before.before.before.before.before.before.args.packet.now ≡ false
+no-5 : (c : tie.Else4) → checksum_differs c.before.before.before.before.before.before.before.before.before.before.before.before.args.packet.now ≡ false
 no-5 c = sym c.before.checksum-differs.ensures ∙ c.if4.false
 
 new-requires : tie.Need-new-requires

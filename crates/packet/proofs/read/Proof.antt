@@ -3,7 +3,7 @@ use mathlib.Core.Path.{◌≡◌, sym, ◌∙◌}
 use native.Mathlib.Omega.{arith}
 use borrow.Author.Tests.{eq-eqb, ne_eqb}
 use Rattle.opcode.proofs.Below.{carried-below}
-use Rattle.packet.specs.Reading.{commandAt}
+use Rattle.packet.specs.Reading.{command_at}
 use Rattle.packet.specs.Internal.{framed}
 use Rattle.packet.proofs.Frames.{broken-read, stands, judged-read}
 use Rattle.packet.proofs.Promises.{read-promised}
@@ -13,7 +13,7 @@ use Rattle.packet.proofs.read.Tie as tie
 
 -- The frame that the pattern took apart is the packet's.
 sound : (c : tie.After-frame)
-    → commandAt c.frame.given.0.0 c.frame.given.0.1.0 c.frame.given.0.1.1.0
+    → command_at c.frame.given.0.0 c.frame.given.0.1.0 c.frame.given.0.1.1.0
     c.frame.given.0.1.1.1.0
     ≡ framed c.before.before.before.before.args.packet.now
 sound c = rw c.frame.given.1 at c.before.before.frame-of.ensures

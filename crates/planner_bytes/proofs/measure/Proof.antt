@@ -8,14 +8,14 @@ use Rattle.upload.specs.Cost.{differs}
 use Rattle.upload.proofs.Differs.{lent-long}
 use Rattle.upload.proofs.Rooms.{Measuring, measure-start, measure-small, measure-turn, measure-done}
 use Rattle.upload.proofs.Outcome.{measured, measured-bytes}
-use Rattle.planning.specs.Internal.{costIn}
+use Rattle.planning.specs.Internal.{cost_in}
 use Rattle.planner_bytes.proofs.Places.{length-longs, zero-longs, map-words, lent-words}
 use borrow.Author.Rules.{rules}
 use Rattle.planner_bytes.proofs.measure.Statement.{statement}
 use Rattle.planner_bytes.proofs.measure.Tie as tie
 
 abbrev invariant-loop : tie.invariant-loop
-invariant-loop held wanted room₀ choices₀ n p₀ i₀ room choices p i = Measuring (differs (words held) (words wanted)) (length (longs room₀)) (length choices₀) (costIn p) (longs room) choices i
+invariant-loop held wanted room₀ choices₀ n p₀ i₀ room choices p i = Measuring (differs (words held) (words wanted)) (length (longs room₀)) (length choices₀) (cost_in p) (longs room) choices i
     × (length room ≡ length room₀)
     × (length choices ≡ length choices₀)
 

@@ -11,7 +11,7 @@ use Rattle.wire.specs.Tables.{words}
 use Rattle.tables.proofs.Bytes.{bytes-words}
 use Rattle.upload.specs.Judge.{MapOf}
 use Rattle.upload.specs.Plain.{PlanLists, PointsRight, PlanBytesRight}
-use Rattle.upload.specs.Planning.{planLists, choicesOf, choicesFor, room_for, bytePlanRefusals}
+use Rattle.upload.specs.Planning.{plan_lists, choices_of, choices_for, room_for, byte_plan_refusals}
 use Rattle.upload.proofs.Rooms.{length-firsts}
 use Rattle.upload.proofs.Outcome.{fit, maps-lent, over-part, room-over, Ready, ready, refused-bytes, done-bytes}
 use Rattle.planner_bytes.proofs.Places.{map-words, length-longs}
@@ -30,9 +30,9 @@ abbrev at-start : tie.Else1 → tie.Start
 at-start c = c.before.before.before.before.before.before.before.before
 
 abbrev lent : tie.Else1 → PlanLists
-lent c = planLists (at-start c).args.plan.now (at-start c).args.room.now (at-start c).args.choices.now (at-start c).args.batch.now
+lent c = plan_lists (at-start c).args.plan.now (at-start c).args.room.now (at-start c).args.choices.now (at-start c).args.batch.now
 
-silent : (c : tie.Else1) → first (bytePlanRefusals (at-start c).args.points (at-start c).args.held.now (at-start c).args.wanted.now (lent c)) ≡ 0
+silent : (c : tie.Else1) → first (byte_plan_refusals (at-start c).args.points (at-start c).args.held.now (at-start c).args.wanted.now (lent c)) ≡ 0
 silent c = sym c.before.refusal.ensures ∙ c.if1.false
 
 fits : (c : tie.Else1)
@@ -73,7 +73,7 @@ measured c =
     let went = c.before.before.before in
     let args = (at-start went).args in
     let m = maps went in
-    ready args.points (words args.held.now) (words args.wanted.now) args.choices.now (fits went).0.few m.0 m.1 (c.measure.ensures.choices-are ∙ ap (λ (many : ℕ). choicesFor many (words args.held.now) (words args.wanted.now)) (length-take-le 1984 args.choices.now (fits went).1.choices-long))
+    ready args.points (words args.held.now) (words args.wanted.now) args.choices.now (fits went).0.few m.0 m.1 (c.measure.ensures.choices-are ∙ ap (λ (many : ℕ). choices_for many (words args.held.now) (words args.wanted.now)) (length-take-le 1984 args.choices.now (fits went).1.choices-long))
 
 slice-reshare-prefix-write : tie.Need-slice-reshare-prefix-write
 slice-reshare-prefix-write c = (measured c.before.before.before.before.before).within
@@ -108,7 +108,7 @@ returns-2 c =
     let m = maps went in
     let got = c.before.before.before.before.before.before.before.before.before.before.before.before.measure in
     let wrote = c.before.before.before.before.write in
-    let choices = over-part 1984 (choicesOf (words args.held.now) (words args.wanted.now)) args.choices.now (length-firsts 1984 _) (got.ensures.choices-are ∙ ap (λ (many : ℕ). choicesFor many (words args.held.now) (words args.wanted.now)) (length-take-le 1984 args.choices.now f.1.choices-long)) in
+    let choices = over-part 1984 (choices_of (words args.held.now) (words args.wanted.now)) args.choices.now (length-firsts 1984 _) (got.ensures.choices-are ∙ ap (λ (many : ℕ). choices_for many (words args.held.now) (words args.wanted.now)) (length-take-le 1984 args.choices.now f.1.choices-long)) in
     rw wrote.ensures.0
     (done-bytes args.points args.held.now args.wanted.now (lent went) (silent went) m.0 m.1
     (bytes-words wrote.new.1.0 (omega (arith, f.1.plan-long)) (λ k. (c.before.before.slice-known7.given k).fits))

@@ -7,13 +7,13 @@ use Rattle.upload.specs.Cost.{differs}
 use Rattle.upload.proofs.Differs.{lent-long}
 use Rattle.upload.proofs.Rooms.{Measuring, measure-start, measure-small, measure-turn, measure-done}
 use Rattle.upload.proofs.Outcome.{measured}
-use Rattle.planning.specs.Internal.{costIn}
+use Rattle.planning.specs.Internal.{cost_in}
 use borrow.Author.Rules.{rules}
 use Rattle.planner_numbers.proofs.measure.Statement.{statement}
 use Rattle.planner_numbers.proofs.measure.Tie as tie
 
 abbrev invariant-loop : tie.invariant-loop
-invariant-loop held wanted room₀ choices₀ n p₀ i₀ room choices p i = Measuring (differs held wanted) (length room₀) (length choices₀) (costIn p) room choices i
+invariant-loop held wanted room₀ choices₀ n p₀ i₀ room choices p i = Measuring (differs held wanted) (length room₀) (length choices₀) (cost_in p) room choices i
     × (length room ≡ length room₀)
     × (length choices ≡ length choices₀)
 

@@ -8,7 +8,7 @@ use lib.Seq.{length-take-le}
 use Rattle.wire.specs.First.{first}
 use Rattle.upload.specs.Judge.{MapOf}
 use Rattle.upload.specs.Plain.{PlanLists, PointsRight, PlanNumbersRight}
-use Rattle.upload.specs.Planning.{planLists, choicesOf, choicesFor, roomOf, room_for, planRefusals}
+use Rattle.upload.specs.Planning.{plan_lists, choices_of, choices_for, room_of, room_for, plan_refusals}
 use Rattle.upload.proofs.Rooms.{length-firsts}
 use Rattle.upload.proofs.Outcome.{fit, maps-lent, over-part, Ready, ready, refused, done}
 use borrow.Author.Rules.{rules}
@@ -26,9 +26,9 @@ abbrev at-start : tie.Else1 → tie.Start
 at-start c = c.before.before.before.before.before.before.before.before
 
 abbrev lent : tie.Else1 → PlanLists
-lent c = planLists (at-start c).args.plan.now (at-start c).args.room.now (at-start c).args.choices.now (at-start c).args.batch.now
+lent c = plan_lists (at-start c).args.plan.now (at-start c).args.room.now (at-start c).args.choices.now (at-start c).args.batch.now
 
-silent : (c : tie.Else1) → first (planRefusals (at-start c).args.points (at-start c).args.held.now (at-start c).args.wanted.now (lent c)) ≡ 0
+silent : (c : tie.Else1) → first (plan_refusals (at-start c).args.points (at-start c).args.held.now (at-start c).args.wanted.now (lent c)) ≡ 0
 silent c = sym c.before.refusal.ensures ∙ c.if1.false
 
 fits : (c : tie.Else1)
@@ -68,7 +68,7 @@ measured c =
     let went = c.before.before.before in
     let args = (at-start went).args in
     let m = maps went in
-    ready args.points args.held.now args.wanted.now args.choices.now (fits went).0.few m.0 m.1 (c.measure.ensures.choices-are ∙ ap (λ (many : ℕ). choicesFor many args.held.now args.wanted.now) (length-take-le 1984 args.choices.now (fits went).1.choices-long))
+    ready args.points args.held.now args.wanted.now args.choices.now (fits went).0.few m.0 m.1 (c.measure.ensures.choices-are ∙ ap (λ (many : ℕ). choices_for many args.held.now args.wanted.now) (length-take-le 1984 args.choices.now (fits went).1.choices-long))
 
 slice-reshare-prefix-write : tie.Need-slice-reshare-prefix-write
 slice-reshare-prefix-write c = (measured c.before.before.before.before.before).within
@@ -105,8 +105,8 @@ returns-2 c =
     let wrote = c.before.before.before.before.write.ensures in
     rw wrote.0
     (done args.points args.held.now args.wanted.now (lent went) (silent went) m.0 m.1
-    (over-part 127 (roomOf args.held.now args.wanted.now) args.room.now (length-firsts 127 _) (got.room-is ∙ ap (λ (numbers : ℕ). room_for numbers args.held.now args.wanted.now) (length-take-le 127 args.room.now f.1.room-long)))
-    (over-part 1984 (choicesOf args.held.now args.wanted.now) args.choices.now (length-firsts 1984 _) (got.choices-are ∙ ap (λ (many : ℕ). choicesFor many args.held.now args.wanted.now) (length-take-le 1984 args.choices.now f.1.choices-long)))
+    (over-part 127 (room_of args.held.now args.wanted.now) args.room.now (length-firsts 127 _) (got.room-is ∙ ap (λ (numbers : ℕ). room_for numbers args.held.now args.wanted.now) (length-take-le 127 args.room.now f.1.room-long)))
+    (over-part 1984 (choices_of args.held.now args.wanted.now) args.choices.now (length-firsts 1984 _) (got.choices-are ∙ ap (λ (many : ℕ). choices_for many args.held.now args.wanted.now) (length-take-le 1984 args.choices.now f.1.choices-long)))
     wrote.1)
 
 pub plan-spec : {M : Type 1} → statement M

@@ -2,7 +2,7 @@ use native.Mathlib.Omega.{arith}
 use borrow.Author.Tests.{le-leb, lt-leb}
 use mathlib.Core.Path.{refl}
 use lib.ListN.{length}
-use Rattle.playback.specs.Windows.{closingRoom}
+use Rattle.playback.specs.Windows.{closing_room}
 use Rattle.playback.proofs.Closing.{puts-as, puts-nothing, puts-length}
 use borrow.Author.Rules.{rules}
 use Rattle.playback.proofs.unreadable.Statement.{statement}
@@ -12,7 +12,7 @@ use Rattle.playback.proofs.unreadable.Lts as lts
 use Rattle.text.proofs.put_text.Reads as put-text-reads
 
 returns : tie.Need-returns
-returns c = (puts-as (rw (lt-leb closingRoom (length c.before.before.args.out.now) c.if1.true) refl) (puts-nothing 0 _), omega arith)
+returns c = (puts-as (rw (lt-leb closing_room (length c.before.before.args.out.now) c.if1.true) refl) (puts-nothing 0 _), omega arith)
 
 slice-aggregate-put-text : tie.Need-slice-aggregate-put-text
 slice-aggregate-put-text c = search rules
@@ -27,7 +27,7 @@ returns-2 : tie.Need-returns-2
 returns-2 c =
     let words = c.before.before.put-text.ensures in
     let room = c.before.before.before.before.before.if1.false in
-    (puts-as (rw (le-leb closingRoom _ room) refl) words, omega (arith, words.ends, puts-length words, room))
+    (puts-as (rw (le-leb closing_room _ room) refl) words, omega (arith, words.ends, puts-length words, room))
 
 pub unreadable-spec : {M : Type 1} → statement M
 unreadable-spec =

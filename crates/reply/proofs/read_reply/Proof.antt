@@ -1,7 +1,7 @@
 -- Each return: the tests before it failed and its own held, so the list of refusals gives its number; or all failed.
 use borrow.Author.Rules.{rules}
 use borrow.Author.Tests.{lt-ltb, le-ltb, eq-eqb, ne_eqb}
-use Rattle.reply.specs.Reading.{replyReading}
+use Rattle.reply.specs.Reading.{reply_reading}
 use Rattle.reply.proofs.Promises.{reply-promised}
 use Rattle.reply.proofs.read_reply.Statement.{statement}
 use Rattle.reply.proofs.read_reply.Tie as tie
@@ -16,7 +16,7 @@ refused-requires : tie.Need-refused-requires
 refused-requires c κs = search rules
 
 returns : tie.Need-returns
-unfolding replyReading
+unfolding reply_reading
 returns c =
     reply-promised _ _
     (simp (← c.before.before.checksum-size.ensures.0, lt-ltb _ _ c.before.if1.true, c.refused.ensures))
@@ -25,7 +25,7 @@ refused-requires-2 : tie.Need-refused-requires-2
 refused-requires-2 c κs = search rules
 
 returns-2 : tie.Need-returns-2
-unfolding replyReading
+unfolding reply_reading
 returns-2 c =
     reply-promised _ _
     (simp (
@@ -48,7 +48,7 @@ refused-requires-3 : tie.Need-refused-requires-3
 refused-requires-3 c κs = search rules
 
 returns-3 : tie.Need-returns-3
-unfolding replyReading
+unfolding reply_reading
 returns-3 c =
     let at-2 = c.before.before.before in
     let at_1 = at-2.before in
@@ -69,7 +69,7 @@ refused-requires-4 : tie.Need-refused-requires-4
 refused-requires-4 c κs = search rules
 
 returns-4 : tie.Need-returns-4
-unfolding replyReading
+unfolding reply_reading
 returns-4 c =
     let at-3 = c.before.before.before in
     let at-2 = at-3.before.before in
@@ -93,7 +93,7 @@ refused-requires-5 : tie.Need-refused-requires-5
 refused-requires-5 c κs = search rules
 
 returns-5 : tie.Need-returns-5
-unfolding replyReading
+unfolding reply_reading
 returns-5 c =
     let at-4 = c.before.before.before in
     let at-3 = at-4.before.before in
@@ -113,7 +113,7 @@ returns-5 c =
     ))
 
 returns-6 : tie.Need-returns-6
-unfolding replyReading
+unfolding reply_reading
 returns-6 c =
     let at-4 = c.before.before in
     let at-3 = at-4.before.before in

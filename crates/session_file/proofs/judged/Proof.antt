@@ -1,4 +1,4 @@
-use Rattle.session_file.specs.Windows.{afterTaking}
+use Rattle.session_file.specs.Windows.{after_taking}
 use native.Mathlib.Omega.{arith}
 use mathlib.Core.Path.{refl, ◌∙◌}
 use borrow.Author.Tests.{lt-ltb, le-ltb, le-leb, lt-leb, eq-eqb, ne_eqb}
@@ -17,7 +17,7 @@ none-yet-requires c κs = search rules
 
 -- src/lib.rt:169:9
 returns : tie.Need-returns
-unfolding afterTaking
+unfolding after_taking
 returns c = (c.none_yet.ensures ∙ rw (lt-ltb _ _ c.before.if1.true) refl, rw c.none_yet.ensures (omega (arith, c.before.if1.true)))
 
 -- src/lib.rt:171:19
@@ -34,7 +34,7 @@ none-yet-requires-2 c κs = search rules
 
 -- src/lib.rt:172:9
 returns-2 : tie.Need-returns-2
-unfolding afterTaking
+unfolding after_taking
 returns-2 c = (c.none-yet2.ensures ∙ rw (le-ltb _ _ c.before.before.before.if1.false, ← c.before.before.word.ensures.0, lt-ltb _ _ c.before.if2.true) refl, rw c.none-yet2.ensures (omega (arith, c.before.if2.true, c.before.before.word.ensures.1)))
 
 -- src/lib.rt:180:14
@@ -43,7 +43,7 @@ least-requires c κs = search rules
 
 -- src/lib.rt:165:1
 returns-3 : tie.Need-returns-3
-unfolding afterTaking
+unfolding after_taking
 returns-3 c = (rw (le-ltb _ _ c.before.before.before.if1.false, ← c.before.before.word.ensures.0, le-ltb _ _ c.before.if2.false, ← c.least.ensures) refl, omega arith)
 
 pub judged-spec : {M : Type 1} → statement M

@@ -1,5 +1,5 @@
 use mathlib.Core.Path.{refl, ◌∙◌}
-use Rattle.session_file.specs.Windows.{keptAfter}
+use Rattle.session_file.specs.Windows.{kept_after}
 use borrow.Author.Tests.{lt-ltb, le-ltb, le-leb, lt-leb, eq-eqb, ne_eqb}
 use borrow.Author.Rules.{rules}
 use Rattle.session_file.proofs.keep.Statement.{statement}
@@ -11,7 +11,7 @@ use Rattle.wire.proofs.copy.Reads as copy-reads
 
 -- src/lib.rt:155:9
 returns : tie.Need-returns
-unfolding keptAfter
+unfolding kept_after
 returns c = rw (le-ltb _ _ c.if1.true) refl
 
 -- src/lib.rt:157:25
@@ -32,7 +32,7 @@ same_length c = search rules
 
 -- src/lib.rt:150:1
 returns-2 : tie.Need-returns-2
-unfolding keptAfter
+unfolding kept_after
 returns-2 c = c.before.before.copy.ensures ∙ rw (lt-ltb _ _ c.before.before.before.before.before.if1.false, ← c.before.before.before.before.least.ensures) refl
 
 pub keep_spec : {M : Type 1} → statement M

@@ -1,5 +1,5 @@
 use native.Mathlib.Numerals.{add-one}
-use Rattle.session_file.specs.Session.{matchedBy}
+use Rattle.session_file.specs.Session.{matched_by}
 use mathlib.Core.Path.{refl, ◌∙◌}
 use borrow.Author.Tests.{lt-ltb, le-ltb, le-leb, lt-leb, eq-eqb, ne_eqb}
 use borrow.Author.Rules.{rules}
@@ -32,7 +32,7 @@ none-yet-requires c κs = search rules
 
 -- src/lib.rt:73:9
 returns : tie.Need-returns
-unfolding matchedBy
+unfolding matched_by
 returns c = c.none_yet.ensures ∙ rw (← c.before.before.preamble-at.ensures, eq-eqb _ _ c.before.if1.true) refl
 
 -- src/lib.rt:75:14
@@ -45,7 +45,7 @@ none-yet-requires-2 c κs = search rules
 
 -- src/lib.rt:68:1
 returns-2 : tie.Need-returns-2
-unfolding matchedBy
+unfolding matched_by
 returns-2 c = c.none-yet2.ensures ∙ rw (← c.before.before.preamble-at.ensures, ne_eqb _ _ c.before.if1.false) refl
 
 pub preamble-byte-spec : {M : Type 1} → statement M

@@ -6,17 +6,17 @@ use mathlib.Core.List.{List}
 use lib.Dec.{leb}
 use Rattle.wire.specs.Numbers.{byte_at}
 use Rattle.opcode.specs.declared.Field.{Field}
-use Rattle.opcode.specs.Commands.{commandOf}
+use Rattle.opcode.specs.Commands.{command_of}
 use Rattle.opcode.specs.Fields.{span}
-use Rattle.settings.specs.Ranges.{right, behindPort, forEach, updateMode, deviceFields}
+use Rattle.settings.specs.Ranges.{right, behind_port, for_each, update_mode, device_fields}
 use Rattle.settings.proofs.Laws.{right-append, right-byte, device-runs}
 use borrow.Author.Rules.{rules}
 use Rattle.settings.proofs.device_in_range.Statement.{statement}
 use Rattle.settings.proofs.device_in_range.Tie as tie
-use Rattle.settings.specs.Layout.{lockPlace, pinCount, pinPlace, pwmCount, pwmPlace, uartPlace, uartSize, updatePlace}
+use Rattle.settings.specs.Layout.{lock_place, pin_count, pin_place, pwm_count, pwm_place, uart_place, uart_size, update_place}
 
 three : (fs : List Field) (d : List ℕ) (at : ℕ)
-    → right (forEach 3 fs) d at ≡ (right fs d at && (right fs d (at + span fs) && (right fs d (at + span fs + span fs) && true)))
+    → right (for_each 3 fs) d at ≡ (right fs d at && (right fs d (at + span fs) && (right fs d (at + span fs + span fs) && true)))
 unfolding right
 three fs d at = simp right-append
 
@@ -25,19 +25,19 @@ joined : (fine e f g h k l m : Bool)
 joined fine e f g h k l m = simp (and_assoc, and-true)
 
 parts : (d : List ℕ) (fine : Bool)
-    → (fine && right deviceFields d updatePlace)
-    ≡ (fine && leb (byte_at d updatePlace) updateMode.high && right (forEach pinCount (behindPort 0x60)) d pinPlace && right (forEach pwmCount (behindPort 0x65)) d pwmPlace
-    && leb (byte_at d lockPlace) 1 && right (behindPort 0x6D) d uartPlace && right (behindPort 0x6D) d 845 && right (behindPort 0x6D) d (uartPlace + 2 * uartSize))
-unfolding commandOf
+    → (fine && right device_fields d update_place)
+    ≡ (fine && leb (byte_at d update_place) update_mode.high && right (for_each pin_count (behind_port 0x60)) d pin_place && right (for_each pwm_count (behind_port 0x65)) d pwm_place
+    && leb (byte_at d lock_place) 1 && right (behind_port 0x6D) d uart_place && right (behind_port 0x6D) d 845 && right (behind_port 0x6D) d (uart_place + 2 * uart_size))
+unfolding command_of
 parts d fine =
     rw (
       device-runs d,
-      three (behindPort 0x6D) d uartPlace,
-      right-byte updateMode.high d updatePlace,
-      right-byte 1 d lockPlace,
+      three (behind_port 0x6D) d uart_place,
+      right-byte update_mode.high d update_place,
+      right-byte 1 d lock_place,
     )
-    (joined fine (leb (byte_at d updatePlace) updateMode.high) (right (forEach pinCount (behindPort 0x60)) d pinPlace) (right (forEach pwmCount (behindPort 0x65)) d pwmPlace)
-    (leb (byte_at d lockPlace) 1) (right (behindPort 0x6D) d uartPlace) (right (behindPort 0x6D) d (uartPlace + uartSize)) (right (behindPort 0x6D) d (uartPlace + 2 * uartSize)))
+    (joined fine (leb (byte_at d update_place) update_mode.high) (right (for_each pin_count (behind_port 0x60)) d pin_place) (right (for_each pwm_count (behind_port 0x65)) d pwm_place)
+    (leb (byte_at d lock_place) 1) (right (behind_port 0x6D) d uart_place) (right (behind_port 0x6D) d (uart_place + uart_size)) (right (behind_port 0x6D) d (uart_place + 2 * uart_size)))
 
 up-to-requires : tie.Need-up-to-requires
 up-to-requires c κs = search rules

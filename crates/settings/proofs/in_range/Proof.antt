@@ -5,26 +5,26 @@ use mathlib.Core.Bool.{◌&&◌, and-true, and_assoc}
 use mathlib.Core.List.{List}
 use lib.Dec.{leb}
 use Rattle.wire.specs.Numbers.{byte_at}
-use Rattle.opcode.specs.Fields.{from-to, takes}
-use Rattle.opcode.specs.Commands.{commandOf}
-use Rattle.settings.specs.Ranges.{right, fields_of, pictureFields, deviceFields, shapeRight, settingsRight}
+use Rattle.opcode.specs.Fields.{from_to, takes}
+use Rattle.opcode.specs.Commands.{command_of}
+use Rattle.settings.specs.Ranges.{right, fields_of, picture_fields, device_fields, shape_right, settings_right}
 use Rattle.settings.proofs.Laws.{right-byte}
 use Rattle.settings.proofs.Allowed.{in-range}
 use borrow.Author.Rules.{rules}
 use Rattle.settings.proofs.in_range.Statement.{statement}
 use Rattle.settings.proofs.in_range.Tie as tie
-use Rattle.settings.specs.Layout.{enable, liveShape, smoothTable, stagedShape, updatePlace}
+use Rattle.settings.specs.Layout.{enable, live_shape, smooth_table, staged_shape, update_place}
 
-smooth : (d : List ℕ) → right (fields_of 0x38) d smoothTable ≡ (takes (from-to 1 3 5) (byte_at d smoothTable) && takes (from-to 1 3 5) (byte_at d (smoothTable + 1)))
-unfolding right commandOf
+smooth : (d : List ℕ) → right (fields_of 0x38) d smooth_table ≡ (takes (from_to 1 3 5) (byte_at d smooth_table) && takes (from_to 1 3 5) (byte_at d (smooth_table + 1)))
+unfolding right command_of
 smooth d = rw and-true
 
 parts : (d : List ℕ)
-    → settingsRight d
-    ≡ (right pictureFields d 0 && shapeRight d stagedShape && leb (byte_at d enable) 1 && shapeRight d liveShape && takes (from-to 1 3 5) (byte_at d smoothTable)
-    && takes (from-to 1 3 5) (byte_at d (smoothTable + 1))
-    && right deviceFields d updatePlace)
-unfolding settingsRight commandOf
+    → settings_right d
+    ≡ (right picture_fields d 0 && shape_right d staged_shape && leb (byte_at d enable) 1 && shape_right d live_shape && takes (from_to 1 3 5) (byte_at d smooth_table)
+    && takes (from_to 1 3 5) (byte_at d (smooth_table + 1))
+    && right device_fields d update_place)
+unfolding settings_right command_of
 parts d = rw (right-byte 1 d enable, smooth d) (simp and_assoc)
 
 picture-in-range-requires : tie.Need-picture-in-range-requires

@@ -4,21 +4,21 @@ use mathlib.Core.Path.{◌≡◌, refl, sym, ◌∙◌}
 use mathlib.Core.Bool.{◌&&◌}
 use mathlib.Core.List.{[], ◌∷◌}
 use native.Mathlib.Omega.{arith}
-use Rattle.opcode.specs.Commands.{commandOf, flag}
-use Rattle.settings.specs.Ranges.{right, behindPort, forEach}
+use Rattle.opcode.specs.Commands.{command_of, flag}
+use Rattle.settings.specs.Ranges.{right, behind_port, for_each}
 use Rattle.settings.proofs.Laws.{right-byte, each_turn, each-done}
 use Rattle.settings.proofs.pins_in_range.Statement.{statement}
 use Rattle.settings.proofs.pins_in_range.Tie as tie
-use Rattle.settings.specs.Layout.{pinCount, pinPlace}
+use Rattle.settings.specs.Layout.{pin_count, pin_place}
 
-pins : forEach pinCount (behindPort 0x60) ≡ forEach 264 (flag ∷ [])
-unfolding commandOf
+pins : for_each pin_count (behind_port 0x60) ≡ for_each 264 (flag ∷ [])
+unfolding command_of
 pins = refl
 
 abbrev invariant-loop : tie.invariant-loop
 invariant-loop fine block all₀ i₀ all i =
     (i ≤ 264)
-    × ((fine && right (forEach 264 (flag ∷ [])) block pinPlace) ≡ (all && right (forEach (264 - i) (flag ∷ [])) block (pinPlace + i)))
+    × ((fine && right (for_each 264 (flag ∷ [])) block pin_place) ≡ (all && right (for_each (264 - i) (flag ∷ [])) block (pin_place + i)))
 
 abbrev decreases-loop : tie.decreases-loop
 decreases-loop fine block all₀ i₀ all i = 264 - i
@@ -43,16 +43,16 @@ loop-again c =
     let at-loop = c.before.before in
     let block = at-loop.before.before.args.block.now in
     let i = at-loop.loop.i in
-    let next : pinPlace + i + 1 ≡ pinPlace + (i + 1) = omega arith in
-    let turn = each_turn (flag ∷ []) block at-loop.loop.all i 264 (pinPlace + i) (omega arith) in
-    (omega arith, rw (c.up_to_lem.ensures, ← right-byte 1 block (pinPlace + i), ← next) (at-loop.loop.invariant.1 ∙ turn))
+    let next : pin_place + i + 1 ≡ pin_place + (i + 1) = omega arith in
+    let turn = each_turn (flag ∷ []) block at-loop.loop.all i 264 (pin_place + i) (omega arith) in
+    (omega arith, rw (c.up_to_lem.ensures, ← right-byte 1 block (pin_place + i), ← next) (at-loop.loop.invariant.1 ∙ turn))
 
 returns : tie.Need-returns invariant-loop decreases-loop
 returns c =
     let at-loop = c.before in
     let block = at-loop.before.before.args.block.now in
     let i = at-loop.loop.i in
-    rw pins (sym (at-loop.loop.invariant.1 ∙ each-done (flag ∷ []) block at-loop.loop.all i 264 (pinPlace + i) (omega arith)))
+    rw pins (sym (at-loop.loop.invariant.1 ∙ each-done (flag ∷ []) block at-loop.loop.all i 264 (pin_place + i) (omega arith)))
 
 pub pins-in-range-spec : {M : Type 1} → statement M
 pins-in-range-spec =

@@ -6,7 +6,7 @@ use native.Mathlib.Omega.{arith}
 use borrow.Author.Tests.{ne_eqb}
 use lib.Dec.{eqb}
 use Rattle.wire.specs.Numbers.{byte_at}
-use Rattle.settings.specs.Layout.{at, placeOf}
+use Rattle.settings.specs.Layout.{at, place_of}
 use borrow.Author.Rules.{rules}
 use Rattle.settings.proofs.place_of.Statement.{statement}
 use Rattle.settings.proofs.place_of.Tie as tie
@@ -46,59 +46,59 @@ add-result-4 : tie.Need-overflow-add-result-4
 add-result-4 c = search rules
 
 returns : tie.Need-returns
-unfolding placeOf
+unfolding place_of
 returns c = rw c.match.keys1 (omega arith)
 
 returns-2 : tie.Need-returns-2
-unfolding placeOf
+unfolding place_of
 returns-2 c = rw c.match.keys2 (omega arith)
 
 returns-3 : tie.Need-returns-3
-unfolding placeOf
+unfolding place_of
 returns-3 c = rw c.match.keys3 (omega arith)
 
 returns-4 : tie.Need-returns-4
-unfolding placeOf
+unfolding place_of
 returns-4 c = rw c.match.keys4 (omega arith)
 
 returns-5 : tie.Need-returns-5
-unfolding placeOf
+unfolding place_of
 returns-5 c = rw c.match.keys5 (omega arith)
 
 returns-6 : tie.Need-returns-6
-unfolding placeOf
+unfolding place_of
 returns-6 c = rw c.match.keys6 (omega arith)
 
 returns-7 : tie.Need-returns-7
-unfolding placeOf
+unfolding place_of
 returns-7 c = rw c.match.keys7 (omega arith)
 
 returns-8 : tie.Need-returns-8
-unfolding placeOf
+unfolding place_of
 returns-8 c = rw c.match.keys8 (omega arith)
 
 returns-9 : tie.Need-returns-9
-unfolding placeOf
+unfolding place_of
 returns-9 c = rw c.match.keys9 (omega arith)
 
 returns-10 : tie.Need-returns-10
-unfolding placeOf
+unfolding place_of
 returns-10 c = rw c.match.keys10 (omega arith)
 
 returns-11 : tie.Need-returns-11
-unfolding placeOf
+unfolding place_of
 returns-11 c = rw (c.before.match.keys11, ← c.before.before.byte.ensures.0) (omega arith)
 
 returns-12 : tie.Need-returns-12
-unfolding placeOf
+unfolding place_of
 returns-12 c = rw c.match.keys12 (omega arith)
 
 returns-13 : tie.Need-returns-13
-unfolding placeOf
+unfolding place_of
 returns-13 c = rw c.match.keys13 (omega arith)
 
 returns-14 : tie.Need-returns-14
-unfolding placeOf
+unfolding place_of
 returns-14 c =
     let rest = c.match.rest in
     let args = c.before.before.before.args in (

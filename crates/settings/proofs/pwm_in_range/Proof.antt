@@ -3,17 +3,17 @@ use Prim.Native.Nat.{◌+◌, ◌*◌, ◌-◌, ◌≤◌}
 use mathlib.Core.Path.{◌≡◌, refl, sym, ◌∙◌}
 use mathlib.Core.Bool.{◌&&◌}
 use native.Mathlib.Omega.{arith}
-use Rattle.opcode.specs.Commands.{commandOf}
-use Rattle.settings.specs.Ranges.{right, behindPort, forEach}
+use Rattle.opcode.specs.Commands.{command_of}
+use Rattle.settings.specs.Ranges.{right, behind_port, for_each}
 use Rattle.settings.proofs.Laws.{each_turn, each-done}
 use Rattle.settings.proofs.pwm_in_range.Statement.{statement}
 use Rattle.settings.proofs.pwm_in_range.Tie as tie
-use Rattle.settings.specs.Layout.{pwmCount, pwmPlace, pwmSize}
+use Rattle.settings.specs.Layout.{pwm_count, pwm_place, pwm_size}
 
 abbrev invariant-loop : tie.invariant-loop
 invariant-loop fine block all₀ i₀ all i =
     (i ≤ 12)
-    × ((fine && right (forEach pwmCount (behindPort 0x65)) block pwmPlace) ≡ (all && right (forEach (pwmCount - i) (behindPort 0x65)) block (pwmPlace + pwmSize * i)))
+    × ((fine && right (for_each pwm_count (behind_port 0x65)) block pwm_place) ≡ (all && right (for_each (pwm_count - i) (behind_port 0x65)) block (pwm_place + pwm_size * i)))
 
 abbrev decreases-loop : tie.decreases-loop
 decreases-loop fine block all₀ i₀ all i = 12 - i
@@ -37,13 +37,13 @@ loop-less : tie.Need-loop-smaller invariant-loop decreases-loop
 loop-less c = omega arith
 
 loop-again : tie.Need-loop-preserved invariant-loop decreases-loop
-unfolding commandOf
+unfolding command_of
 loop-again c =
     let at-loop = c.before.before in
     let block = at-loop.before.before.args.block.now in
     let i = at-loop.loop.i in
-    let next : pwmPlace + pwmSize * i + 6 ≡ pwmPlace + 6 * (i + 1) = omega arith in
-    let turn = each_turn (behindPort 0x65) block at-loop.loop.all i pwmCount (pwmPlace + pwmSize * i) (omega arith) in
+    let next : pwm_place + pwm_size * i + 6 ≡ pwm_place + 6 * (i + 1) = omega arith in
+    let turn = each_turn (behind_port 0x65) block at-loop.loop.all i pwm_count (pwm_place + pwm_size * i) (omega arith) in
     (omega arith, rw (c.pwm-port-in-range.ensures, ← next) (at-loop.loop.invariant.1 ∙ turn))
 
 returns : tie.Need-returns invariant-loop decreases-loop
@@ -51,7 +51,7 @@ returns c =
     let at-loop = c.before in
     let block = at-loop.before.before.args.block.now in
     let i = at-loop.loop.i in
-    sym (at-loop.loop.invariant.1 ∙ each-done (behindPort 0x65) block at-loop.loop.all i pwmCount (pwmPlace + pwmSize * i) (omega arith))
+    sym (at-loop.loop.invariant.1 ∙ each-done (behind_port 0x65) block at-loop.loop.all i pwm_count (pwm_place + pwm_size * i) (omega arith))
 
 pub pwm-in-range-spec : {M : Type 1} → statement M
 pwm-in-range-spec =

@@ -5,19 +5,19 @@ use mathlib.Core.Bool.{Bool, ◌&&◌, and-true, and_assoc}
 use mathlib.Core.List.{List}
 use native.Mathlib.Omega.{arith}
 use lib.Dec.{leb}
-use Rattle.wire.specs.Numbers.{byte_at, longAt}
-use Rattle.opcode.specs.Fields.{from-to, takes}
-use Rattle.opcode.specs.Commands.{commandOf}
-use Rattle.settings.specs.Ranges.{right, behindPort}
+use Rattle.wire.specs.Numbers.{byte_at, long_at}
+use Rattle.opcode.specs.Fields.{from_to, takes}
+use Rattle.opcode.specs.Commands.{command_of}
+use Rattle.settings.specs.Ranges.{right, behind_port}
 use Rattle.settings.proofs.Laws.{takes-byte}
 use borrow.Author.Rules.{rules}
 use Rattle.settings.proofs.pwm_port_in_range.Statement.{statement}
 use Rattle.settings.proofs.pwm_port_in_range.Tie as tie
 
 parts : (d : List ℕ) (fine : Bool) (at : ℕ)
-    → (fine && right (behindPort 0x65) d at)
-    ≡ (fine && takes (from-to 1 20 10_390_000) (longAt d at) && leb (byte_at d (at + 4)) 100 && leb (byte_at d (at + 5)) 1)
-unfolding right commandOf
+    → (fine && right (behind_port 0x65) d at)
+    ≡ (fine && takes (from_to 1 20 10_390_000) (long_at d at) && leb (byte_at d (at + 4)) 100 && leb (byte_at d (at + 5)) 1)
+unfolding right command_of
 parts d fine at =
     let last : at + 4 + 1 ≡ at + 5 = omega arith in
     rw (last, takes-byte 100 (byte_at d (at + 4)), takes-byte 1 (byte_at d (at + 5))) (simp (and_assoc, and-true))

@@ -5,21 +5,21 @@ use mathlib.Core.Bool.{◌&&◌, ◌||◌, and-true, and_assoc}
 use mathlib.Core.List.{List}
 use native.Mathlib.Omega.{arith}
 use lib.Dec.{eqb}
-use Rattle.opcode.specs.Fields.{from-to, takes}
-use Rattle.opcode.specs.Commands.{commandOf}
-use Rattle.settings.specs.Layout.{modeAt, columnsAt, rows_at}
-use Rattle.settings.specs.Ranges.{right, rising, shapeRight}
+use Rattle.opcode.specs.Fields.{from_to, takes}
+use Rattle.opcode.specs.Commands.{command_of}
+use Rattle.settings.specs.Layout.{mode_at, columns_at, rows_at}
+use Rattle.settings.specs.Ranges.{right, rising, shape_right}
 use borrow.Author.Rules.{rules}
 use Rattle.settings.proofs.shape_in_range.Statement.{statement}
 use Rattle.settings.proofs.shape_in_range.Tie as tie
 
 parts : (d : List ℕ) (shape : ℕ)
-    → shapeRight d shape
-    ≡ (takes (from-to 1 0 1) (modeAt d shape) && takes (from-to 1 2 62) (columnsAt d shape) && takes (from-to 1 2 32) (rows_at d shape)
-    && (eqb (modeAt d shape) 0 || (eqb (columnsAt d shape) 62 && eqb (rows_at d shape) 32))
+    → shape_right d shape
+    ≡ (takes (from_to 1 0 1) (mode_at d shape) && takes (from_to 1 2 62) (columns_at d shape) && takes (from_to 1 2 32) (rows_at d shape)
+    && (eqb (mode_at d shape) 0 || (eqb (columns_at d shape) 62 && eqb (rows_at d shape) 32))
     && rising d (shape + 5) 62
     && rising d (shape + 129) 32)
-unfolding shapeRight right commandOf
+unfolding shape_right right command_of
 parts d shape = let rows : shape + 1 + 2 ≡ shape + 3 = omega arith in rw rows (simp (and_assoc, and-true))
 
 byte-requires : tie.Need-byte-requires

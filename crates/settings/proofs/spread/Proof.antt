@@ -4,19 +4,19 @@ use Prim.Native.Nat.{◌-◌, ◌≤◌}
 use native.Mathlib.Numerals.{add-one}
 use native.Mathlib.Omega.{arith}
 use lib.ListN.{length, length-set}
-use Rattle.settings.specs.Internal.{spreadOver}
+use Rattle.settings.specs.Internal.{spread_over}
 use Rattle.settings.proofs.spread.Statement.{statement}
 use Rattle.settings.proofs.spread.Tie as tie
 
 abbrev invariant-loop : tie.invariant-loop
 invariant-loop block₀ place step v n i₀ block i =
-    (i ≤ n) × (block ≡ spreadOver block₀ place step v i) × (length block ≡ length block₀)
+    (i ≤ n) × (block ≡ spread_over block₀ place step v i) × (length block ≡ length block₀)
 
 abbrev decreases-loop : tie.decreases-loop
 decreases-loop block₀ place step v n i₀ block i = n - i
 
 loop-holds : tie.Need-loop-init invariant-loop decreases-loop
-unfolding spreadOver
+unfolding spread_over
 loop-holds c = (omega arith, refl, refl)
 
 mul-block : tie.Need-overflow-mul-block invariant-loop decreases-loop
@@ -35,7 +35,7 @@ loop-less : tie.Need-loop-smaller invariant-loop decreases-loop
 loop-less c = omega arith
 
 loop-again : tie.Need-loop-preserved invariant-loop decreases-loop
-unfolding spreadOver
+unfolding spread_over
 loop-again c =
     let inv = c.before.loop.invariant in
     (omega arith, rw (add-one, inv.1), simp length-set inv.2)

@@ -5,13 +5,13 @@ use native.Mathlib.Omega.{arith}
 use lib.ListN.{length}
 use lib.Seq.{sets, length-sets}
 use Rattle.wire.specs.Tables.{bytes}
-use Rattle.settings.specs.Reset.{count-up}
+use Rattle.settings.specs.Reset.{count_up}
 use Rattle.settings.proofs.Resets.{count_turn}
 use Rattle.settings.proofs.store_counting.Statement.{statement}
 use Rattle.settings.proofs.store_counting.Tie as tie
 
 abbrev invariant-loop : tie.invariant-loop
-invariant-loop block₀ place n i₀ block i = (i ≤ n) × (block ≡ sets block₀ place (bytes (count-up 0 i))) × (length block ≡ length block₀)
+invariant-loop block₀ place n i₀ block i = (i ≤ n) × (block ≡ sets block₀ place (bytes (count_up 0 i))) × (length block ≡ length block₀)
 
 abbrev decreases-loop : tie.decreases-loop
 decreases-loop block₀ place n i₀ block i = n - i

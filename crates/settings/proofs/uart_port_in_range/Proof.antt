@@ -2,15 +2,15 @@
 use mathlib.Core.Path.{◌≡◌, refl, sym}
 use mathlib.Core.List.{[], ◌∷◌, map}
 use Rattle.opcode.specs.Fields.{byte}
-use Rattle.opcode.specs.Commands.{commandOf}
-use Rattle.settings.specs.Ranges.{behindPort}
+use Rattle.opcode.specs.Commands.{command_of}
+use Rattle.settings.specs.Ranges.{behind_port}
 use Rattle.settings.proofs.Laws.{bytes-first}
 use borrow.Author.Rules.{rules}
 use Rattle.settings.proofs.uart_port_in_range.Statement.{statement}
 use Rattle.settings.proofs.uart_port_in_range.Tie as tie
 
-fields : behindPort 0x6D ≡ map (byte 0) (1 ∷ 11 ∷ 3 ∷ 1 ∷ 2 ∷ 1 ∷ 4 ∷ 4 ∷ 1 ∷ 1 ∷ [])
-unfolding commandOf
+fields : behind_port 0x6D ≡ map (byte 0) (1 ∷ 11 ∷ 3 ∷ 1 ∷ 2 ∷ 1 ∷ 4 ∷ 4 ∷ 1 ∷ 1 ∷ [])
+unfolding command_of
 fields = refl
 
 up-to-requires : tie.Need-up-to-requires

@@ -6,7 +6,7 @@ use native.Mathlib.Omega.{arith}
 use lib.ListN.{length, drop}
 use lib.Seq.{sets}
 use Rattle.wire.specs.Tables.{words, bytes}
-use Rattle.gain_words.specs.Pairs.{expand, sumRuns}
+use Rattle.gain_words.specs.Pairs.{expand, sum_runs}
 use Rattle.gain_words.proofs.Walk.{PairAt, pair-at, words-few}
 use Rattle.tables.proofs.Parts.{runs-turn-bytes, runs-left, runs_done}
 use Rattle.tables.proofs.runs_in_bytes.Statement.{statement}
@@ -15,7 +15,7 @@ use Rattle.tables.proofs.runs_in_bytes.Tie as tie
 abbrev invariant-loop : tie.invariant-loop
 invariant-loop table₀ at src from place₀ i₀ table place i =
     (sets table (2 * place) (bytes (expand (drop i (words (drop from src))))) ≡ sets table₀ (2 * at) (bytes (expand (words (drop from src)))))
-    × (2 * (place + sumRuns (drop i (words (drop from src)))) ≤ length table₀)
+    × (2 * (place + sum_runs (drop i (words (drop from src)))) ≤ length table₀)
     × (length table ≡ length table₀)
     × (2 * i ≤ length src)
 
@@ -38,7 +38,7 @@ here c =
 
 left : (c : tie.After-number2 invariant-loop decreases-loop)
     → let i = (in-loop c).before.loop.i in
-    sumRuns (drop i (words_of c)) ≡ c.before.before.before.number.result + sumRuns (drop (i + 2) (words_of c))
+    sum_runs (drop i (words_of c)) ≡ c.before.before.before.number.result + sum_runs (drop (i + 2) (words_of c))
 left c = runs-left (words_of c) (in-loop c).before.loop.i (here c).within (here c).run_at
 
 loop-holds : tie.Need-loop-init invariant-loop decreases-loop

@@ -2,7 +2,7 @@
 use mathlib.Core.Path.{refl, ap}
 use native.Mathlib.Omega.{arith}
 use borrow.Author.Rules.{rules}
-use Rattle.vermolgas.specs.Packed.{packedCompress}
+use Rattle.vermolgas.specs.Packed.{packed_compress}
 use Rattle.vermolgas.proofs.vermolgas_compress.Statement.{statement}
 use Rattle.vermolgas.proofs.vermolgas_compress.Tie as tie
 
@@ -26,7 +26,7 @@ returns c =
     let a = c.before.before.before.compress.result in
     let told = c.before.before.before.compress.ensures in
     record {
-      packed = ap packedCompress told.outcome;
+      packed = ap packed_compress told.outcome;
       plain = record { status = a.status; pairs = a.pairs; bits = refl; small = omega arith; plain = told.plain };
       promise = told;
     }

@@ -4,7 +4,7 @@ use mathlib.Core.Path.{refl, ap}
 use native.Mathlib.Omega.{arith}
 use borrow.Author.Rules.{rules}
 use Rattle.upload.proofs.Small.{answer-small}
-use Rattle.vermolgas.specs.Packed.{packedPlan}
+use Rattle.vermolgas.specs.Packed.{packed_plan}
 use Rattle.vermolgas.proofs.vermolgas_plan.Statement.{statement}
 use Rattle.vermolgas.proofs.vermolgas_plan.Tie as tie
 
@@ -47,7 +47,7 @@ returns c =
     let told = c.before.before.before.before.before.before.before.before.before.plan.ensures in
     let s = small c in
     record {
-      packed = ap packedPlan told.outcome;
+      packed = ap packed_plan told.outcome;
       plain =
           record {
             status = a.status;

@@ -3,7 +3,7 @@ use Prim.Native.Nat.{ℕ, ◌≤◌, ◌<◌}
 use mathlib.Core.Path.{◌≡◌, sym, ap, ◌∙◌, subst}
 use native.Mathlib.Omega.{arith}
 use borrow.Author.Rules.{rules}
-use Rattle.packet.specs.Reading.{commandAt, Answer, reading}
+use Rattle.packet.specs.Reading.{command_at, Answer, reading}
 use Rattle.packet.proofs.Within.{Within, reading-within}
 use Rattle.vermolgas.proofs.Packs.{read-packed}
 use Rattle.vermolgas.proofs.vermolgas_read.Statement.{statement}
@@ -11,7 +11,7 @@ use Rattle.vermolgas.proofs.vermolgas_read.Tie as tie
 
 -- What the pattern took apart is what reading gives.
 command : (c : tie.After-known-told)
-    → commandAt c.before.r.given.0.0 c.before.r.given.0.1.0 c.before.r.given.0.1.1.0
+    → command_at c.before.r.given.0.0 c.before.r.given.0.1.0 c.before.r.given.0.1.1.0
     c.before.r.given.0.1.1.1.0
     ≡ reading c.before.before.before.before.before.args.packet.now
 command c = rw c.before.r.given.1 at c.before.before.before.read.ensures.outcome

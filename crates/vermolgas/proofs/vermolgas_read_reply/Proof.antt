@@ -6,7 +6,7 @@ use native.Mathlib.Omega.{arith}
 use lib.Dec.{eqb}
 use borrow.Author.Rules.{rules}
 use Rattle.reply.specs.Answer.{ReplyAnswer}
-use Rattle.reply.specs.Reading.{replyReading}
+use Rattle.reply.specs.Reading.{reply_reading}
 use Rattle.reply.proofs.Within.{reply-within}
 use Rattle.vermolgas.proofs.Packs.{reply-packed}
 use Rattle.vermolgas.proofs.vermolgas_read_reply.Statement.{statement}
@@ -15,7 +15,7 @@ use Rattle.vermolgas.proofs.vermolgas_read_reply.Tie as tie
 -- What the pattern took apart is what reply reading gives.
 found : (c : tie.After-known-told)
     → record { number = 0; status = c.before.r.given.0.0; place = c.before.r.given.0.1.0; size = c.before.r.given.0.1.1.0 }
-    ≡ replyReading c.before.before.before.before.before.args.reply.now (not (eqb c.before.before.before.before.before.args.checksum 0))
+    ≡ reply_reading c.before.before.before.before.before.args.reply.now (not (eqb c.before.before.before.before.before.args.checksum 0))
 found c = rw c.before.r.given.1 at c.before.before.before.read-reply.ensures.outcome
 
 small : (c : tie.After-known-told) → c.before.r.given.0.1.1.0 ≤ 512

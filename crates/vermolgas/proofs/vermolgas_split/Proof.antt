@@ -2,7 +2,7 @@
 use mathlib.Core.Path.{refl, ap}
 use native.Mathlib.Omega.{arith}
 use borrow.Author.Rules.{rules}
-use Rattle.vermolgas.specs.Packed.{packedSplit}
+use Rattle.vermolgas.specs.Packed.{packed_split}
 use Rattle.vermolgas.proofs.vermolgas_split.Statement.{statement}
 use Rattle.vermolgas.proofs.vermolgas_split.Tie as tie
 
@@ -32,7 +32,7 @@ returns c =
     let a = c.before.before.before.split.result in
     let told = c.before.before.before.split.ensures in
     record {
-      packed = ap packedSplit told.right.outcome;
+      packed = ap packed_split told.right.outcome;
       plain =
           record {
             status = a.status;

@@ -6,7 +6,7 @@ use lib.ListN.{drop}
 use lib.Dec.{ltb}
 use Rattle.wire.specs.Tables.{words}
 use Rattle.wire.proofs.Tables.{length_pairs, word-at}
-use Rattle.gain_words.specs.Gains.{mostGain}
+use Rattle.gain_words.specs.Gains.{most_gain}
 use Rattle.compressor.specs.Internal.{highest}
 use Rattle.compressor.proofs.Writing.{high-turn, high-done, high-large}
 use Rattle.compressor.proofs.bytes.some_large.Statement.{statement}
@@ -61,7 +61,7 @@ returns c =
     let gains = c.before.before.before.args.gains.now in
     let done = high-done (words gains) c.before.loop.i (omega (arith, length_pairs 256 gains)) in
     let all : c.before.loop.most ≡ highest (words gains) = omega (arith, done) in
-    ap (ltb mostGain) all ∙ high-large (words gains)
+    ap (ltb most_gain) all ∙ high-large (words gains)
 
 pub some-large-spec : {M : Type 1} → statement M
 some-large-spec =

@@ -4,7 +4,7 @@ use mathlib.Core.Path.{◌≡◌, ap, ◌∙◌}
 use native.Mathlib.Omega.{arith}
 use lib.ListN.{length, drop}
 use lib.Dec.{ltb}
-use Rattle.gain_words.specs.Gains.{mostGain}
+use Rattle.gain_words.specs.Gains.{most_gain}
 use Rattle.compressor.specs.Internal.{highest}
 use Rattle.compressor.proofs.Writing.{high-turn, high-done, high-large}
 use Rattle.compressor.proofs.numbers.some_large.Statement.{statement}
@@ -43,7 +43,7 @@ returns : tie.Need-returns invariant-loop decreases-loop
 returns c =
     let gains = c.before.before.before.args.gains.now in
     let all : c.before.loop.most ≡ highest gains = omega (arith, high-done gains c.before.loop.i (omega arith)) in
-    ap (ltb mostGain) all ∙ high-large gains
+    ap (ltb most_gain) all ∙ high-large gains
 
 pub some-large-spec : {M : Type 1} → statement M
 some-large-spec =

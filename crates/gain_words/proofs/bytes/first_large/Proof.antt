@@ -4,13 +4,13 @@ use mathlib.Core.Path.{◌≡◌, ◌∙◌}
 use native.Mathlib.Omega.{arith}
 use lib.ListN.{length, drop}
 use Rattle.wire.specs.Tables.{words}
-use Rattle.gain_words.specs.Gains.{firstLarge}
+use Rattle.gain_words.specs.Gains.{first_large}
 use Rattle.gain_words.proofs.Walk.{large-turn, large-stop, large-done, word_in, words-few}
 use Rattle.gain_words.proofs.bytes.first_large.Statement.{statement}
 use Rattle.gain_words.proofs.bytes.first_large.Tie as tie
 
 abbrev invariant-loop : tie.invariant-loop
-invariant-loop s at i₀ i = (2 * i ≤ length s) × (firstLarge (words (drop at s)) ≡ i + firstLarge (drop i (words (drop at s))))
+invariant-loop s at i₀ i = (2 * i ≤ length s) × (first_large (words (drop at s)) ≡ i + first_large (drop i (words (drop at s))))
 
 abbrev decreases-loop : tie.decreases-loop
 decreases-loop s at i₀ i = length s - 2 * i

@@ -7,13 +7,13 @@ use native.Mathlib.Omega.{arith}
 use lib.ListN.{length, drop}
 use Rattle.wire.specs.Tables.{words}
 use Rattle.wire.proofs.Tables.{number_at}
-use Rattle.gain_words.specs.Pairs.{pairFault, runWrong}
+use Rattle.gain_words.specs.Pairs.{pair_fault, run_wrong}
 use Rattle.gain_words.proofs.Walk.{fault-run, fault-gain, fault-turn, fault-done, PairAt, pair-at, words_count, words-few}
 use Rattle.gain_words.proofs.bytes.pair_fault.Statement.{statement}
 use Rattle.gain_words.proofs.bytes.pair_fault.Tie as tie
 
 abbrev invariant-loop : tie.invariant-loop
-invariant-loop s at i₀ i = (2 * i ≤ length s) × (pairFault (words (drop at s)) ≡ i + pairFault (drop i (words (drop at s))))
+invariant-loop s at i₀ i = (2 * i ≤ length s) × (pair_fault (words (drop at s)) ≡ i + pair_fault (drop i (words (drop at s))))
 
 abbrev decreases-loop : tie.decreases-loop
 decreases-loop s at i₀ i = length s - 2 * i
@@ -35,7 +35,7 @@ here c =
     let args = (in-loop c).before.before.before.args in
     pair-at args.s.now args.at (index c) (omega arith) c.before.before.before.before.before.number.ensures c.number2.ensures
 
-right : (c : tie.After-number2 invariant-loop decreases-loop) → runWrong c.before.before.before.before.before.number.result ≡ false
+right : (c : tie.After-number2 invariant-loop decreases-loop) → run_wrong c.before.before.before.before.before.number.result ≡ false
 right c = sym c.before.before.before.before.run-wrong.ensures ∙ c.before.before.before.if1.false
 
 loop-holds : tie.Need-loop-init invariant-loop decreases-loop

@@ -7,13 +7,13 @@ use lib.ListN.{length, drop}
 use lib.Dec.{ltb}
 use Rattle.wire.specs.Tables.{words}
 use Rattle.wire.proofs.Tables.{number_at}
-use Rattle.gain_words.specs.Pairs.{colourGains, sumRuns}
+use Rattle.gain_words.specs.Pairs.{colour_gains, sum_runs}
 use Rattle.gain_words.proofs.Walk.{sum-turn, sum_done, words_count, words-few}
 use Rattle.gain_words.proofs.bytes.runs_past.Statement.{statement}
 use Rattle.gain_words.proofs.bytes.runs_past.Tie as tie
 
 abbrev invariant-loop : tie.invariant-loop
-invariant-loop start s at end₀ i₀ end i = (2 * i ≤ length s) × (end + sumRuns (drop i (words (drop at s))) ≡ start + sumRuns (words (drop at s)))
+invariant-loop start s at end₀ i₀ end i = (2 * i ≤ length s) × (end + sum_runs (drop i (words (drop at s))) ≡ start + sum_runs (words (drop at s)))
 
 abbrev decreases-loop : tie.decreases-loop
 decreases-loop start s at end₀ i₀ end i = length s - 2 * i
@@ -33,7 +33,7 @@ add-loop-2 c = omega arith
 returns : tie.Need-returns invariant-loop decreases-loop
 returns c =
     let args = c.before.before.before.before.args in
-    let past : colourGains < args.start + sumRuns (words (drop args.at args.s.now)) = omega arith in
+    let past : colour_gains < args.start + sum_runs (words (drop args.at args.s.now)) = omega arith in
     sym (lt-ltb _ _ past)
 
 mul-j : tie.Need-overflow-mul-j invariant-loop decreases-loop
@@ -81,8 +81,8 @@ returns-2 c =
     let i = c.before.loop.i in
     let few = words-few args.s.now args.at (i + 1) (omega arith) in
     let none_left = sum_done (words (drop args.at args.s.now)) i few in
-    let same : c.before.loop.end ≡ args.start + sumRuns (words (drop args.at args.s.now)) = omega arith in
-    ap (ltb colourGains) same
+    let same : c.before.loop.end ≡ args.start + sum_runs (words (drop args.at args.s.now)) = omega arith in
+    ap (ltb colour_gains) same
 
 pub runs-past-spec : {M : Type 1} → statement M
 runs-past-spec =

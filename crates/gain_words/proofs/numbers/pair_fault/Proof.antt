@@ -3,13 +3,13 @@ use Prim.Native.Nat.{◌+◌, ◌-◌, ◌≤◌}
 use mathlib.Core.Path.{◌≡◌, refl, sym, ◌∙◌}
 use native.Mathlib.Omega.{arith}
 use lib.ListN.{length, drop}
-use Rattle.gain_words.specs.Pairs.{pairFault}
+use Rattle.gain_words.specs.Pairs.{pair_fault}
 use Rattle.gain_words.proofs.Walk.{fault-run, fault-gain, fault-turn, fault-done}
 use Rattle.gain_words.proofs.numbers.pair_fault.Statement.{statement}
 use Rattle.gain_words.proofs.numbers.pair_fault.Tie as tie
 
 abbrev invariant-loop : tie.invariant-loop
-invariant-loop pairs i₀ i = (i ≤ length pairs) × (pairFault pairs ≡ i + pairFault (drop i pairs))
+invariant-loop pairs i₀ i = (i ≤ length pairs) × (pair_fault pairs ≡ i + pair_fault (drop i pairs))
 
 abbrev decreases-loop : tie.decreases-loop
 decreases-loop pairs i₀ i = length pairs - i

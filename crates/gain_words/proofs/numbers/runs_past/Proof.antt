@@ -5,13 +5,13 @@ use native.Mathlib.Omega.{arith}
 use borrow.Author.Tests.{lt-ltb}
 use lib.ListN.{length, drop}
 use lib.Dec.{ltb}
-use Rattle.gain_words.specs.Pairs.{colourGains, sumRuns}
+use Rattle.gain_words.specs.Pairs.{colour_gains, sum_runs}
 use Rattle.gain_words.proofs.Walk.{sum-turn, sum_done}
 use Rattle.gain_words.proofs.numbers.runs_past.Statement.{statement}
 use Rattle.gain_words.proofs.numbers.runs_past.Tie as tie
 
 abbrev invariant-loop : tie.invariant-loop
-invariant-loop start pairs end₀ i₀ end i = (i ≤ length pairs) × (end + sumRuns (drop i pairs) ≡ start + sumRuns pairs)
+invariant-loop start pairs end₀ i₀ end i = (i ≤ length pairs) × (end + sum_runs (drop i pairs) ≡ start + sum_runs pairs)
 
 abbrev decreases-loop : tie.decreases-loop
 decreases-loop start pairs end₀ i₀ end i = length pairs - i
@@ -24,7 +24,7 @@ add-loop c = omega arith
 
 returns : tie.Need-returns invariant-loop decreases-loop
 returns c =
-    let past : colourGains < c.before.before.before.args.start + sumRuns c.before.before.before.args.pairs.now = omega arith in
+    let past : colour_gains < c.before.before.before.args.start + sum_runs c.before.before.before.args.pairs.now = omega arith in
     sym (lt-ltb _ _ past)
 
 mul-end : tie.Need-overflow-mul-end invariant-loop decreases-loop
@@ -54,8 +54,8 @@ returns-2 : tie.Need-returns-2 invariant-loop decreases-loop
 returns-2 c =
     let args = c.before.before.args in
     let none_left = sum_done args.pairs.now c.before.loop.i (omega arith) in
-    let same : c.before.loop.end ≡ args.start + sumRuns args.pairs.now = omega arith in
-    ap (ltb colourGains) same
+    let same : c.before.loop.end ≡ args.start + sum_runs args.pairs.now = omega arith in
+    ap (ltb colour_gains) same
 
 pub runs-past-spec : {M : Type 1} → statement M
 runs-past-spec =

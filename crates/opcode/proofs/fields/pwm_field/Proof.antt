@@ -1,11 +1,11 @@
 -- Each arm by its key; the default is each field behind them, by a computed test.
-use Rattle.opcode.specs.Commands.{commandOf}
+use Rattle.opcode.specs.Commands.{command_of}
 use Rattle.opcode.proofs.Rows.{same, onward}
 use Rattle.opcode.proofs.fields.pwm_field.Statement.{statement}
 use Rattle.opcode.proofs.fields.pwm_field.Tie as tie
 
 pub pwm-field-spec : {M : Type 1} → statement M
-unfolding commandOf same
+unfolding command_of same
 pwm-field-spec =
     tie.close
     (tie.spec
@@ -15,4 +15,4 @@ pwm-field-spec =
     (λ c. cc)
     (λ c. cc)
     (λ c. cc)
-    (λ c. onward 3 _ (commandOf 0x65).sets c.before.args.k tt c.match.rest))
+    (λ c. onward 3 _ (command_of 0x65).sets c.before.args.k tt c.match.rest))

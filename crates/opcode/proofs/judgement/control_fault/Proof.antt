@@ -1,13 +1,13 @@
 -- By the mode.
 use mathlib.Core.Path.{refl}
 use borrow.Author.Tests.{ne_eqb}
-use Rattle.opcode.specs.Commands.{commandOf}
-use Rattle.opcode.specs.Judgement.{controlFault}
+use Rattle.opcode.specs.Commands.{command_of}
+use Rattle.opcode.specs.Judgement.{control_fault}
 use Rattle.opcode.proofs.judgement.control_fault.Statement.{statement}
 use Rattle.opcode.proofs.judgement.control_fault.Tie as tie
 
 pub control-fault-spec : {M : Type 1} → statement M
-unfolding commandOf controlFault
+unfolding command_of control_fault
 control-fault-spec =
     tie.close
     (tie.spec

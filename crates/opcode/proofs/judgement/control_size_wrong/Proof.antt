@@ -1,17 +1,17 @@
 -- Each way by its tests.
 use borrow.Author.Tests.{eq-eqb, ne_eqb}
-use Rattle.opcode.specs.Judgement.{controlSizeWrong}
+use Rattle.opcode.specs.Judgement.{control_size_wrong}
 use Rattle.opcode.proofs.judgement.control_size_wrong.Statement.{statement}
 use Rattle.opcode.proofs.judgement.control_size_wrong.Tie as tie
 
 returns-4 : tie.Need-returns-4
-unfolding controlSizeWrong
+unfolding control_size_wrong
 returns-4 c =
     let mode = c.before.before in
     simp (ne_eqb _ _ mode.before.if1.false, ← mode.byte.ensures.0, ne_eqb _ _ c.before.if2.false, ne_eqb _ _ c.if3.false)
 
 pub control-size-wrong-spec : {M : Type 1} → statement M
-unfolding controlSizeWrong
+unfolding control_size_wrong
 control-size-wrong-spec =
     tie.close
     (tie.spec

@@ -6,7 +6,7 @@ use native.Mathlib.Omega.{arith}
 use borrow.Author.Tests.{lt-ltb, le-ltb, ne_eqb}
 use lib.ListN.{drop}
 use Rattle.wire.specs.First.{first}
-use Rattle.opcode.specs.Judgement.{judgement, faultPlace, valueFault}
+use Rattle.opcode.specs.Judgement.{judgement, fault_place, value_fault}
 use Rattle.opcode.proofs.judgement.judge.Statement.{statement}
 use Rattle.opcode.proofs.judgement.judge.Tie as tie
 
@@ -40,11 +40,11 @@ past-10 c = past-9 c.before.before ∙ simp (← c.before.value-fault.ensures, l
 
 -- The number that the tests come to, and no place with it; or 10, and the place of the value at fault.
 told : (op o n : ℕ) (d : List ℕ) {number at : ℕ} → (n ≡ 10 → ⊥) → (number ≡ n) × (at ≡ 0) → n ≡ first (judgement op o d)
-    → (number ≡ first (judgement op o d)) × (at ≡ faultPlace (first (judgement op o d)) op o d)
+    → (number ≡ first (judgement op o d)) × (at ≡ fault_place (first (judgement op o d)) op o d)
 told op o n d other r e = rw (← e) (r.0, r.1 ∙ rw (ne_eqb n 10 other))
 
-value-told : (op o : ℕ) (d : List ℕ) {number at fault : ℕ} → fault ≡ valueFault op o d → (number ≡ 10) × (at ≡ fault) → 10 ≡ first (judgement op o d)
-    → (number ≡ first (judgement op o d)) × (at ≡ faultPlace (first (judgement op o d)) op o d)
+value-told : (op o : ℕ) (d : List ℕ) {number at fault : ℕ} → fault ≡ value_fault op o d → (number ≡ 10) × (at ≡ fault) → 10 ≡ first (judgement op o d)
+    → (number ≡ first (judgement op o d)) × (at ≡ fault_place (first (judgement op o d)) op o d)
 value-told op o d f r e = rw (← e) (r.0, r.1 ∙ f)
 
 pub judge-spec : {M : Type 1} → statement M

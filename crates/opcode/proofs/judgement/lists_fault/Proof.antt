@@ -1,12 +1,12 @@
 -- The first list, or the second.
 use native.Mathlib.Omega.{arith}
 use borrow.Author.Tests.{lt-ltb, le-ltb}
-use Rattle.opcode.specs.Judgement.{listsFault}
+use Rattle.opcode.specs.Judgement.{lists_fault}
 use Rattle.opcode.proofs.judgement.lists_fault.Statement.{statement}
 use Rattle.opcode.proofs.judgement.lists_fault.Tie as tie
 
 pub lists-fault-spec : {M : Type 1} → statement M
-unfolding listsFault
+unfolding lists_fault
 lists-fault-spec =
     tie.close
     (tie.spec

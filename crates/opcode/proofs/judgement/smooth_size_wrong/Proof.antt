@@ -2,14 +2,14 @@
 use mathlib.Core.Path.{refl}
 use native.Mathlib.Omega.{arith}
 use borrow.Author.Tests.{lt-ltb, le-ltb}
-use Rattle.opcode.specs.Commands.{commandOf}
-use Rattle.opcode.specs.Judgement.{smoothSizeWrong}
+use Rattle.opcode.specs.Commands.{command_of}
+use Rattle.opcode.specs.Judgement.{smooth_size_wrong}
 use Rattle.opcode.proofs.Laws.{product}
 use Rattle.opcode.proofs.judgement.smooth_size_wrong.Statement.{statement}
 use Rattle.opcode.proofs.judgement.smooth_size_wrong.Tie as tie
 
 returns-3 : tie.Need-returns-3
-unfolding smoothSizeWrong
+unfolding smooth_size_wrong
 returns-3 c =
     let head = c.before.before in
     simp (
@@ -21,7 +21,7 @@ returns-3 c =
     )
 
 pub smooth-size-wrong-spec : {M : Type 1} → statement M
-unfolding commandOf smoothSizeWrong
+unfolding command_of smooth_size_wrong
 smooth-size-wrong-spec =
     tie.close
     (tie.spec

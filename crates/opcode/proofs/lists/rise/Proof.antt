@@ -2,7 +2,7 @@
 use mathlib.Core.Path.{◌≡◌}
 use Prim.Native.Nat.{◌+◌, ◌*◌, ◌-◌, ◌≤◌, ◌<◌}
 use native.Mathlib.Omega.{arith}
-use Rattle.opcode.specs.Internal.{stretchSteps, RisenTo}
+use Rattle.opcode.specs.Internal.{stretch_steps, RisenTo}
 use Rattle.opcode.proofs.Laws.{risen-start, risen-here, risen-past}
 use Rattle.opcode.proofs.lists.rise.Statement.{statement}
 use Rattle.opcode.proofs.lists.rise.Tie as tie
@@ -22,7 +22,7 @@ returns c =
     let args = at-loop.before.before.before.args in
     let inside = at-loop.before.within.ensures in
     let e = c.before.stretch.ensures.0 in
-    omega (arith, risen-here args.s.now args.at args.count at-loop.loop.i at-loop.loop.invariant stretchSteps (omega arith) (omega arith))
+    omega (arith, risen-here args.s.now args.at args.count at-loop.loop.i at-loop.loop.invariant stretch_steps (omega arith) (omega arith))
 
 loop-less : tie.Need-loop-smaller invariant-loop decreases-loop
 loop-less c = let inside = c.before.before.before.before.within.ensures in omega arith
@@ -33,7 +33,7 @@ loop-again c =
     let args = at-loop.before.before.before.args in
     let inside = at-loop.before.within.ensures in
     let e = c.before.stretch.ensures.0 in
-    let past = risen-past args.s.now args.at args.count at-loop.loop.i at-loop.loop.invariant stretchSteps (omega arith) (omega arith) in
+    let past = risen-past args.s.now args.at args.count at-loop.loop.i at-loop.loop.invariant stretch_steps (omega arith) (omega arith) in
     (omega arith, omega arith)
 
 pub rise-spec : {M : Type 1} → statement M

@@ -4,7 +4,7 @@ use mathlib.Core.Bool.{Bool}
 use mathlib.Core.List.{List, [], ◌∷◌, ◌++◌}
 use borrow.Author.Rules.{rules}
 use lib.ListN.{get_or, replicate}
-use Rattle.opcode.specs.Commands.{commandOf, none}
+use Rattle.opcode.specs.Commands.{command_of, none}
 use Rattle.opcode.proofs.Table.{everywhere}
 use Rattle.opcode.proofs.Rows.{sized, sizing, beyond}
 use Rattle.opcode.proofs.opcodes.packed_at.Statement.{statement}
@@ -28,14 +28,14 @@ rows =
     ++ replicate 146 0
 
 right : ℕ → ℕ → Bool
-right op x = sized x (commandOf op)
+right op x = sized x (command_of op)
 
 pub packed-at-spec : {M : Type 1} → statement M
-unfolding commandOf sized rows right
+unfolding command_of sized rows right
 packed-at-spec =
     tie.close
     (tie.spec
     (λ c. rw (beyond c.before.args.opcode c.if1.true) (sizing 0 none tt))
     (λ c. search rules)
     (λ c. search rules)
-    (λ c. let op = c.before.args.opcode in sizing (get_or rows op 0) (commandOf op) (everywhere right 0 rows tt op (search rules))))
+    (λ c. let op = c.before.args.opcode in sizing (get_or rows op 0) (command_of op) (everywhere right 0 rows tt op (search rules))))

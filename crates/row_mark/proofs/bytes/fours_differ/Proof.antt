@@ -6,7 +6,7 @@ use native.Mathlib.Omega.{arith}
 use Rattle.wire.specs.Tables.{words}
 use Rattle.wire.proofs.Tables.{length_pairs}
 use Rattle.row_mark.proofs.Walk.{Alike, PointSame, alike-start, alike-many, many-differ, alike_end, either-differs, neither-differs}
-use Rattle.row_mark.proofs.Points.{twoLongs, four_same, four-other}
+use Rattle.row_mark.proofs.Points.{two_longs, four_same, four-other}
 use borrow.Author.Rules.{rules}
 use Rattle.row_mark.proofs.bytes.fours_differ.Statement.{statement}
 use Rattle.row_mark.proofs.bytes.fours_differ.Tie as tie
@@ -19,10 +19,10 @@ decreases-loop start n staged live i₀ i = n - i
 
 -- What a turn reads: four points of each map.
 record Four (a b : List ℕ) (at w x y z : ℕ) : Type 0 where
-  staged-low : w ≡ twoLongs a at
-  live-low : x ≡ twoLongs b at
-  staged-high : y ≡ twoLongs a (at + 8)
-  live-high : z ≡ twoLongs b (at + 8)
+  staged-low : w ≡ two_longs a at
+  live-low : x ≡ two_longs b at
+  staged-high : y ≡ two_longs a (at + 8)
+  live-high : z ≡ two_longs b (at + 8)
 
 four : (c : tie.After-two-points4 invariant-loop decreases-loop)
     → Four c.before.before.before.before.before.before.before.before.args.staged.now

@@ -7,15 +7,15 @@ use native.Mathlib.Omega.{arith}
 use lib.ListN.{length}
 use Rattle.wire.specs.Tables.{words}
 use Rattle.wire.proofs.Tables.{length_pairs}
-use Rattle.row_mark.specs.Rows.{pointsDiffer}
+use Rattle.row_mark.specs.Rows.{points_differ}
 use Rattle.row_mark.proofs.Walk.{two-parts}
 use borrow.Author.Rules.{rules}
 use Rattle.row_mark.proofs.bytes.row_differs.Statement.{statement}
 use Rattle.row_mark.proofs.bytes.row_differs.Tie as tie
 
 in-fours : (a b : List ℕ) (start columns : ℕ) → 4 * (start + columns) ≤ length a → 4 * (start + columns) ≤ length b
-    → pointsDiffer start columns (words a) (words b)
-    ≡ (pointsDiffer start (4 * (columns / 4)) (words a) (words b) || pointsDiffer (start + 4 * (columns / 4)) (columns - 4 * (columns / 4)) (words a) (words b))
+    → points_differ start columns (words a) (words b)
+    ≡ (points_differ start (4 * (columns / 4)) (words a) (words b) || points_differ (start + 4 * (columns / 4)) (columns - 4 * (columns / 4)) (words a) (words b))
 in-fours a b start columns la lb =
     let all : 4 * (columns / 4) + (columns - 4 * (columns / 4)) ≡ columns = omega arith in
     rw all at (two-parts (words a) (words b) start (4 * (columns / 4)) (columns - 4 * (columns / 4)) (rw length_pairs (omega arith)) (rw length_pairs (omega arith)))

@@ -5,7 +5,7 @@ use mathlib.Core.Bool.{Bool}
 use native.Mathlib.Omega.{arith}
 use lib.ListN.{set}
 use Rattle.row_mark.specs.Bits.{bits_of}
-use Rattle.row_mark.specs.Rows.{rowDiffers}
+use Rattle.row_mark.specs.Rows.{row_differs}
 use Rattle.row_mark.proofs.Rows.{Refreshing, refreshing-turn, refreshing-done, row_room}
 use borrow.Author.Rules.{rules}
 use Rattle.row_mark.proofs.numbers.refresh.Statement.{statement}
@@ -13,7 +13,7 @@ use Rattle.row_mark.proofs.numbers.refresh.Tie as tie
 
 abbrev invariant-loop : tie.invariant-loop
 invariant-loop mark first end columns staged live fresh₀ row₀ fresh row =
-    Refreshing (rowDiffers columns staged live) first end (bits_of 32 mark) row (bits_of 32 fresh)
+    Refreshing (row_differs columns staged live) first end (bits_of 32 mark) row (bits_of 32 fresh)
 
 abbrev decreases-loop : tie.decreases-loop
 decreases-loop mark first end columns staged live fresh₀ row₀ fresh row = end - row

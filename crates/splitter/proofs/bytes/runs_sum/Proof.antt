@@ -6,13 +6,13 @@ use lib.ListN.{take, drop}
 use Rattle.wire.specs.Tables.{words}
 use Rattle.wire.proofs.Tables.{word-at}
 use Rattle.gain_words.proofs.Walk.{words_count}
-use Rattle.gain_words.specs.Pairs.{sumRuns}
+use Rattle.gain_words.specs.Pairs.{sum_runs}
 use Rattle.splitter.proofs.Sums.{next-run, no_run}
 use Rattle.splitter.proofs.bytes.runs_sum.Statement.{statement}
 use Rattle.splitter.proofs.bytes.runs_sum.Tie as tie
 
 abbrev invariant-loop : tie.invariant-loop
-invariant-loop pairs from n sum₀ k₀ sum k = (k ≤ n) × (sum + sumRuns (drop k (take n (drop from (words pairs)))) ≡ sumRuns (take n (drop from (words pairs))))
+invariant-loop pairs from n sum₀ k₀ sum k = (k ≤ n) × (sum + sum_runs (drop k (take n (drop from (words pairs)))) ≡ sum_runs (take n (drop from (words pairs))))
 
 abbrev decreases-loop : tie.decreases-loop
 decreases-loop pairs from n sum₀ k₀ sum k = n - k
@@ -22,7 +22,7 @@ taken : (c : tie.After-number invariant-loop decreases-loop)
     → let at-loop = c.before.before.before.before in
     let args = at-loop.before.before.args in
     let ws = take args.n (drop args.from (words args.pairs.now)) in
-    sumRuns (drop at-loop.loop.k ws) ≡ c.number.result + sumRuns (drop (at-loop.loop.k + 2) ws)
+    sum_runs (drop at-loop.loop.k ws) ≡ c.number.result + sum_runs (drop (at-loop.loop.k + 2) ws)
 taken c =
     let at-loop = c.before.before.before.before in
     let args = at-loop.before.before.args in

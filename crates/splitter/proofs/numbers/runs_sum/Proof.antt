@@ -3,13 +3,13 @@ use Prim.Native.Nat.{◌+◌, ◌-◌, ◌≤◌}
 use mathlib.Core.Path.{◌≡◌}
 use native.Mathlib.Omega.{arith}
 use lib.ListN.{take, drop}
-use Rattle.gain_words.specs.Pairs.{sumRuns}
+use Rattle.gain_words.specs.Pairs.{sum_runs}
 use Rattle.splitter.proofs.Sums.{next-run, no_run}
 use Rattle.splitter.proofs.numbers.runs_sum.Statement.{statement}
 use Rattle.splitter.proofs.numbers.runs_sum.Tie as tie
 
 abbrev invariant-loop : tie.invariant-loop
-invariant-loop pairs from n sum₀ k₀ sum k = (k ≤ n) × (sum + sumRuns (drop k (take n (drop from pairs))) ≡ sumRuns (take n (drop from pairs)))
+invariant-loop pairs from n sum₀ k₀ sum k = (k ≤ n) × (sum + sum_runs (drop k (take n (drop from pairs))) ≡ sum_runs (take n (drop from pairs)))
 
 abbrev decreases-loop : tie.decreases-loop
 decreases-loop pairs from n sum₀ k₀ sum k = n - k
