@@ -1,0 +1,16 @@
+-- The loop keeps the sum: what is added and what is left are all runs.
+use Prim.Native.Nat.{◌+◌, ◌-◌, ◌≤◌, ◌<◌}
+use mathlib.Core.Path.{◌≡◌, sym, ap}
+use native.Mathlib.Omega.{arith}
+use borrow.Author.Tests.{lt-ltb}
+use lib.ListN.{length, drop}
+use lib.Dec.{ltb}
+use Rattle.gain_words.specs.Pairs.{colour_gains, sum_runs}
+use Rattle.gain_words.proofs.Walk.{sum-turn, sum_done}
+use Rattle.gain_words.proofs.numbers.runs_past.Given as goal
+
+abbrev pub invariant-loop-i : goal.invariant-loop-i
+invariant-loop-i l = (l.i ≤ length l.pairs) × (l.end + sum_runs (drop l.i l.pairs) ≡ l.start + sum_runs l.pairs)
+
+abbrev pub decreases-loop-i : goal.decreases-loop-i
+decreases-loop-i l = length l.pairs - l.i

@@ -1,0 +1,12 @@
+-- The loop keeps what the bytes passed weigh; a turn weighs one more.
+use Prim.Native.Nat.{ℕ, ◌*◌, ◌-◌, ◌<◌}
+use native.Mathlib.Omega.{arith}
+use lib.ListN.{take, get_or}
+use Rattle.wire.proofs.Sums.{checksum-agrees, Weighing, weighing-start, weighing-turn, weighing-done, weighed-small}
+use Rattle.wire.proofs.checksum.Given as goal
+
+abbrev pub invariant-loop-i : goal.invariant-loop-i
+invariant-loop-i l = Weighing l.s l.n l.weight l.sum l.i
+
+abbrev pub decreases-loop-i : goal.decreases-loop-i
+decreases-loop-i l = l.n - l.i
