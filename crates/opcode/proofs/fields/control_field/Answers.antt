@@ -10,3 +10,7 @@ returns-in-1 c = cc
 pub returns-in_default : goal.returns-in_default
 unfolding command_of same
 returns-in_default c = rw c.word-in_default.ensures (onward 2 _ (command_of 0x35).sets c.args.k tt c.in_default.in_default-own.rest)
+
+pub returns-in-0 : goal.returns-in-0
+unfolding command_of same
+returns-in-0 c = cc

@@ -3,9 +3,14 @@ use mathlib.Core.List.{[], ◌∷◌}
 use mathlib.Core.Logic.{⊎_elim}
 use Rattle.opcode.proofs.Rows.{same, asked}
 use Rattle.opcode.proofs.fields.field_of.Goals as goal
+use Rattle.opcode.proofs.fields.field_of.Goals.{then-reads+else-opcode-eq43+else-opcode-eq52, else-reads}
 
 pub returns : goal.returns
 unfolding same
-returns c = let field = c.set_field.ensures in
-    ⊎_elim (λ w. rw w.0.taken (asked (0x34 ∷ 0x2B ∷ []) _ c.args.k tt ((tt, w.1.left), w.2.left) field))
-    (λ w. rw w.left field) c.if-reads.branch
+returns c =
+    elim c.if-reads.branch [
+      | then-reads+else-opcode-eq43+else-opcode-eq52 w ↦
+          rw w.if-reads.true
+          (asked (0x34 ∷ 0x2B ∷ []) _ c.args.k tt ((tt, w.if-opcode-eq43.false), w.if-opcode-eq52.false) c.set_field.ensures)
+      | else-reads w ↦ rw w.if-reads.false c.set_field.ensures
+    ]

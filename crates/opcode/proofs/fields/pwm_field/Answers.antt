@@ -10,3 +10,11 @@ returns-in-2 c = cc
 pub returns-in_default : goal.returns-in_default
 unfolding command_of same
 returns-in_default c = onward 3 _ (command_of 0x65).sets c.args.k tt c.in_default.in_default-own.rest
+
+pub returns-in-0 : goal.returns-in-0
+unfolding command_of same
+returns-in-0 c = cc
+
+pub returns-in-1 : goal.returns-in-1
+unfolding command_of same
+returns-in-1 c = cc
