@@ -32,10 +32,10 @@ fill_part-requires c = omega (arith, left (goal.at.fill_part-requires c).After-n
 
 pub loop-i-preserved : goal.loop-i-preserved
 loop-i-preserved c = let p = here (goal.at.loop-i-preserved c).After-number-gain in
-    let goal = runs-turn (words_of (goal.at.loop-i-preserved c).After-number-gain) c.loop-i.table c.loop-i.i c.loop-i.place p.within p.run_at p.gain-at in (
-      rw c.fill_part.ensures (goal ∙ c.loop-i.inv.0),
+    let aim = runs-turn (words_of (goal.at.loop-i-preserved c).After-number-gain) c.loop-i.table c.loop-i.i c.loop-i.place p.within p.run_at p.gain-at in (
+      rw c.fill_part.ensures (aim ∙ c.loop-i.invariant.0),
       omega (arith, left (goal.at.loop-i-preserved c).After-number-gain),
-      c.fill_part.auto.0 ∙ c.loop-i.inv.2,
+      c.fill_part.auto.table ∙ c.loop-i.invariant.2,
       omega arith,
     )
 
