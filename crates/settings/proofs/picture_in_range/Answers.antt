@@ -13,8 +13,7 @@ use Rattle.opcode.specs.Commands.{command_of, any_word}
 use Rattle.settings.specs.Ranges.{right, picture_fields}
 use Rattle.settings.proofs.Laws.{takes-byte}
 use borrow.Author.Rules.{rules}
-use Rattle.settings.proofs.picture_in_range.Statement.{statement}
-use Rattle.settings.proofs.picture_in_range.Tie as tie
+use Rattle.settings.proofs.picture_in_range.Goals as goal
 
 -- Rule 5.1, 1Ah: curtain colour 0, 2-8.
 gap : (v : ℕ) → (leb 1 v && ltb v 2) ≡ eqb v 1
@@ -45,54 +44,13 @@ parts d b =
     )
     (simp (and_assoc, and-true))
 
-up-to-requires : tie.Need-up-to-requires
-up-to-requires c κs = search rules
-
-up-to-requires-2 : tie.Need-up-to-requires-2
-up-to-requires-2 c κs = search rules
-
-up-to-requires-3 : tie.Need-up-to-requires-3
-up-to-requires-3 c κs = search rules
-
-shared-slice-read-both : tie.Need-shared-slice-read-both
-shared-slice-read-both c = search rules
-
-both-requires : tie.Need-both-requires
-both-requires c κs = search rules
-
-up-to-requires-4 : tie.Need-up-to-requires-4
-up-to-requires-4 c κs = search rules
-
-up-to-requires-5 : tie.Need-up-to-requires-5
-up-to-requires-5 c κs = search rules
-
-returns : tie.Need-returns
-returns c =
-    let at-4 = c.before in
-    let at_both = at-4.before in
-    let at-3 = at_both.before.before in
-    let at-2 = at-3.before in
-    let at_1 = at-2.before in
-    let at-start = at_1.before.before in
-    rw (
-      c.up-to5.ensures,
-      at-4.up-to4.ensures,
-      at_both.both.ensures,
-      at-3.up-to3.ensures,
-      at-2.up-to2.ensures,
-      at_1.up_to_lem.ensures,
+pub returns : goal.returns
+returns c = rw (
+      c.up_to.ensures,
+      c.up_to-fine-4.ensures,
+      c.both-fine.ensures,
+      c.up_to-fine-3.ensures,
+      c.up_to-fine-2.ensures,
+      c.up_to-fine.ensures,
     )
-    (sym (parts at-start.args.block.now (λ k. (at_1.before.shared-slice-known.given k).fits)))
-
-pub picture-in-range-spec : {M : Type 1} → statement M
-picture-in-range-spec =
-    tie.close
-    (tie.spec
-    up-to-requires
-    up-to-requires-2
-    up-to-requires-3
-    shared-slice-read-both
-    both-requires
-    up-to-requires-4
-    up-to-requires-5
-    returns)
+    (sym (parts c.args.block.now (λ k. (c.type_inv.block k).fits)))
