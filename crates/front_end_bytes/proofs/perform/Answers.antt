@@ -10,7 +10,7 @@ use Rattle.front_end_bytes.specs.Bytes.{lent}
 use Rattle.front_end_bytes.specs.Plain.{BytesLent}
 use Rattle.front_end_bytes.proofs.Ways.{Small, sized, unchanged, in_bytes}
 use borrow.Author.Rules.{rules}
-use Rattle.front_end_bytes.proofs.perform.Goals.{Start}
+use Rattle.front_end_bytes.proofs.perform.Goals.{After-slice_known-2-1, After-slice_known-4-1, Start}
 use Rattle.front_end_bytes.proofs.perform.Goals as goal
 
 within : (c : Start) → c.args.at + c.args.size ≤ length c.args.packet.now
@@ -38,7 +38,7 @@ answer_read-n-requires c = let size = sizes (goal.at.answer_read-n-requires c).S
 
 pub returns-then-options-eq1 : goal.returns-then-options-eq1
 returns-then-options-eq1 c = let small : Small _ =
-    record { staged = λ k. (c.type_inv.staged k).fits; live = λ k. (c.type_inv.live k).fits; gains = λ k. (c.type_inv.gains k).fits } in
+    record { staged = λ k. ((goal.at.returns-then-options-eq1 c).After-slice_known-2-1.type_inv.staged k).fits; live = λ k. (c.type_inv.live k).fits; gains = λ k. ((goal.at.returns-then-options-eq1 c).After-slice_known-4-1.type_inv.gains k).fits } in
     in_bytes _ _ _ c.requires.0 (unchanged _ c.requires.0 small) (answers-read _ _ _ c.requires.1 _ _ _ _ c.requires.2 c.if-options-eq1.true c.answer_read-n.ensures)
 
 pub write-requires : goal.write-requires

@@ -18,14 +18,14 @@ held c =
     lent args.block.now args.staged.now args.live.now args.gains.now
 
 right : (c : Else-not-lengths_right) → byte_lengths_right (held c) ≡ true
-right c = sym c.lengths_right.ensures ∙ not-false _ c.if-not-lengths_right.false
+right c = sym c.lengths_right.ensures ∙ c.if-not-lengths_right.false
 
 sizes : (c : Else-not-lengths_right) → BytesLent (held c)
 sizes c = sized (held c) (right c)
 
 pub returns-then-not-lengths_right : goal.returns-then-not-lengths_right
 unfolding reset_bytes
-returns-then-not-lengths_right c = resets-bytes _ (rw (sym c.lengths_right.ensures ∙ not-true _ c.if-not-lengths_right.true))
+returns-then-not-lengths_right c = resets-bytes _ (rw (sym c.lengths_right.ensures ∙ c.if-not-lengths_right.true))
 
 pub fill_bytes-requires : goal.fill_bytes-requires
 fill_bytes-requires c = omega (arith, (sizes (goal.at.fill_bytes-requires c).Else-not-lengths_right).staged)

@@ -16,7 +16,7 @@ held c =
     lent args.block.now args.staged.now args.live.now args.gains.now
 
 right : (c : Else-not-lengths_right) → byte_lengths_right (held c) ≡ true
-right c = sym c.lengths_right.ensures ∙ not-false _ c.if-not-lengths_right.false
+right c = sym c.lengths_right.ensures ∙ c.if-not-lengths_right.false
 
 sizes : (c : Else-not-lengths_right) → BytesLent (held c)
 sizes c = sized (held c) (right c)

@@ -26,5 +26,5 @@ pub returns : goal.returns
 returns c = let named = c.gains_named-named.ensures in
     let args = c.args in
     rw c.if-opcode-ne43.false
-    (three-stored args.«data».now args.gains.now c.gains_named-named.result.place c.put_gains.new.1.0 c.put_gains-2.new.1.0 _
+    (three-stored args.«data».now args.gains.now c.gains_named-named.result.place c.put_gains.new.gains c.put_gains-2.new.gains _
     named.place (sym named.colour ∙ c.if-named-ne0.false) c.put_gains.ensures c.put_gains-2.ensures c.put_gains-3.ensures)
