@@ -3,12 +3,10 @@ use Rattle.playback.proofs.Files.{any-split, not-a-session, none-stopped, stays-
 use Rattle.playback.proofs.Plain.{printed}
 use Rattle.playback.proofs.Determined.{window-determined, determined}
 use Rattle.playback.proofs.Example.{example, cut-example}
-use Rattle.playback.proofs.theorems.Statement.{statement}
-use Rattle.playback.proofs.theorems.Tie as tie
+use Rattle.playback.proofs.theorems.Goals as goal
 
-returns : tie.Need-returns
-returns c =
-    record {
+pub returns : goal.returns
+returns c = record {
       window-determined = window-determined;
       stops = λ w kept reply have left. w.rest (record { for-record = kept; for-reply = reply; for-have = have }) left;
       put = λ p. (p.ends, p.exits);
@@ -22,6 +20,3 @@ returns c =
       example = example;
       cut-example = cut-example;
     }
-
-pub theorems-spec : {M : Type 1} → statement M
-theorems-spec = tie.close (tie.spec returns)
