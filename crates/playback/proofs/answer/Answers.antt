@@ -1,0 +1,21 @@
+use Rattle.playback.proofs.Turns.{answer-done, reply-fits}
+use native.Mathlib.Omega.{arith}
+use mathlib.Core.Path.{refl, sym, ap, ◌∙◌}
+use borrow.Author.Tests.{lt-ltb, le-ltb, le-leb, lt-leb, eq-eqb, ne_eqb}
+use borrow.Author.Rules.{rules}
+use Rattle.playback.proofs.answer.Reads as reads
+use Rattle.playback.proofs.answer.Lts as lts
+use Rattle.front_end_numbers.proofs.handle.Reads as handle-reads
+use Rattle.playback.proofs.put_line.Reads as put-line-reads
+use Rattle.playback.proofs.answer.Goals as goal
+
+-- src/lib.rt:142:9
+pub put_line-size-requires : goal.put_line-size-requires
+put_line-size-requires c = let fits = reply-fits _ _ _ c.handle-o.ensures.outcome in
+    (omega arith, fits.0, fits.1)
+
+-- src/lib.rt:126:1
+pub returns : goal.returns
+returns c = let printed = c.put_line-size.ensures in
+    let handled = c.handle-o.ensures in
+    answer-done handled.outcome printed.0 printed.1 printed.2 printed.3 printed.4 refl refl refl refl

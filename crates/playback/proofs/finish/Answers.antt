@@ -1,0 +1,22 @@
+use native.Mathlib.Omega.{arith}
+use Rattle.playback.proofs.Lines.{puts-behind}
+use Rattle.playback.proofs.Closing.{puts-as, puts-nothing, puts-length, closing-short, closing-most, closing-none, closing_lines}
+use borrow.Author.Rules.{rules}
+use Rattle.playback.proofs.finish.Reads as reads
+use Rattle.playback.proofs.finish.Lts as lts
+use Rattle.playback.proofs.put_cut.Reads as put-cut-reads
+use Rattle.playback.proofs.put_end.Reads as put-end-reads
+use Rattle.text.proofs.put_text.Reads as put-text-reads
+use Rattle.playback.proofs.finish.Goals as goal
+
+-- src/lib.rt:180:9
+pub returns-then-p-ne-PREAMBLE_SIZE : goal.returns-then-p-ne-PREAMBLE_SIZE
+returns-then-p-ne-PREAMBLE_SIZE c = let words = c.put_text.ensures in
+    (puts-as (closing-none c.args.p c.args.out.now c.if-out-lt-CLOSING_ROOM.false c.if-p-ge-MOST_RECORDS.false c.if-p-ne-PREAMBLE_SIZE.true) words, omega (arith, words.ends, puts-length words, c.if-out-lt-CLOSING_ROOM.false))
+
+-- src/lib.rt:170:1
+pub returns : goal.returns
+returns c = let cut = c.put_cut-at.ensures in
+    let end = c.put_end.ensures in
+    let both = puts-behind cut.0 end.0 in
+    (puts-as (closing_lines c.args.p c.args.out.now c.if-out-lt-CLOSING_ROOM.false c.if-p-ge-MOST_RECORDS.false c.if-p-ne-PREAMBLE_SIZE.false) both, omega (arith, end.1, puts-length both, c.if-out-lt-CLOSING_ROOM.false))

@@ -1,0 +1,27 @@
+use Rattle.playback.proofs.Lines.{puts-behind}
+use Rattle.playback.specs.Replay.{line}
+use native.Mathlib.Omega.{arith}
+use mathlib.Core.Path.{refl, sym, ap, ◌∙◌}
+use borrow.Author.Tests.{lt-ltb, le-ltb, le-leb, lt-leb, eq-eqb, ne_eqb}
+use borrow.Author.Rules.{rules}
+use Rattle.playback.proofs.put_line.Reads as reads
+use Rattle.playback.proofs.put_line.Lts as lts
+use Rattle.text.proofs.put_hex.Reads as put-hex-reads
+use Rattle.text.proofs.put_number.Reads as put-number-reads
+use Rattle.text.proofs.put_text.Reads as put-text-reads
+use Rattle.playback.proofs.put_line.Goals as goal
+
+-- src/lib.rt:153:1
+pub returns : goal.returns
+unfolding line
+returns c = let number = c.put_number-behind_number.ensures in
+    let blank = c.put_text-behind_blank.ensures in
+    let status = c.put_number-behind_status.ensures in
+    let reply = c.put_hex-behind_reply.ensures in
+    let newline = c.put_text.ensures in (
+      puts-behind (puts-behind (puts-behind (puts-behind number.0 blank) status.0) reply.0) newline,
+      omega (arith, number.1, blank.ends, status.1, reply.1, newline.ends, c.requires.2),
+      number.2,
+      status.2,
+      reply.2,
+    )

@@ -1,0 +1,21 @@
+use borrow.Author.Tests.{not-true, not-false}
+use Prim.Native.Nat.{◌-◌}
+use mathlib.Core.Path.{◌≡◌, refl, sym, ap, ◌∙◌}
+use lib.ListN.{length}
+use native.Mathlib.Omega.{arith}
+use Rattle.front_end.specs.State.{state}
+use Rattle.playback.proofs.Turns.{Loop, roomy, window-none, loop-start, loop-turn, room-true, window-all, window-full}
+use borrow.Author.Rules.{rules}
+use Rattle.playback.proofs.replay.Reads as reads
+use Rattle.playback.proofs.replay.Lts as lts
+use Rattle.playback.proofs.has_room.Reads as has-room-reads
+use Rattle.playback.proofs.rooms_right.Reads as rooms-right-reads
+use Rattle.playback.proofs.turn.Reads as turn-reads
+use Rattle.playback.proofs.replay.Given as goal
+
+abbrev pub invariant-loop-p : goal.invariant-loop-p
+invariant-loop-p l = Loop l.window l.initial.p l.initial.kept (state l.initial.block l.initial.staged l.initial.live l.initial.gains) l.initial.reply l.initial.out l.p l.kept (state l.block l.staged l.live l.gains) l.reply l.out
+    × (length l.block ≡ length l.initial.block) × (length l.staged ≡ length l.initial.staged) × (length l.live ≡ length l.initial.live) × (length l.gains ≡ length l.initial.gains)
+
+abbrev pub decreases-loop-p : goal.decreases-loop-p
+decreases-loop-p l = length l.window - l.p.at
