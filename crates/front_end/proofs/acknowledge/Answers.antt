@@ -7,7 +7,6 @@ use lib.Dec.{eqb}
 use Rattle.opcode.specs.Options.{has_checksum}
 use Rattle.reply.proofs.Laws.{lent-on}
 use Rattle.front_end.proofs.Replies.{no_byte, not-asked, stopped-1, asked, unanswered, answered-status, place-few}
-use borrow.Author.Rules.{rules}
 use Rattle.front_end.proofs.acknowledge.Goals.{After-put_place-n}
 use Rattle.front_end.proofs.acknowledge.Goals as goal
 

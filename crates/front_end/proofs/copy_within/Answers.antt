@@ -1,10 +1,10 @@
 -- The loop keeps what the law on copying says. What it reads lies before the place that it copies to, and so is as it was.
-use Prim.Native.Nat.{◌+◌, ◌-◌, ◌≤◌}
+use Prim.Native.Nat.{◌+◌, ◌≤◌}
 use mathlib.Core.Path.{◌≡◌}
 use native.Mathlib.Omega.{arith}
 use lib.ListN.{length, drop, get_or, length-drop}
 use lib.Seq.{get_or-drop}
-use Rattle.wire.proofs.Laws.{Copying, start, turn, done}
+use Rattle.wire.proofs.Laws.{turn}
 use Rattle.wire.proofs.Copies.{before-paste}
 use Rattle.front_end.proofs.copy_within.Goals as goal
 

@@ -1,11 +1,7 @@
 -- The loop keeps what the law on copying says. What it reads lies before the place that it copies to, and so is as it was.
-use Prim.Native.Nat.{◌+◌, ◌-◌, ◌≤◌}
-use mathlib.Core.Path.{◌≡◌}
-use native.Mathlib.Omega.{arith}
-use lib.ListN.{length, drop, get_or, length-drop}
-use lib.Seq.{get_or-drop}
-use Rattle.wire.proofs.Laws.{Copying, start, turn, done}
-use Rattle.wire.proofs.Copies.{before-paste}
+use Prim.Native.Nat.{◌-◌}
+use lib.ListN.{drop}
+use Rattle.wire.proofs.Laws.{Copying}
 use Rattle.front_end.proofs.copy_within.Given as goal
 
 abbrev pub invariant-loop-k : goal.invariant-loop-k

@@ -7,7 +7,6 @@ use lib.ListN.{length}
 use Rattle.packet.specs.Reading.{command_at, Answer, reading}
 use Rattle.packet.proofs.Within.{Within, reading-within}
 use Rattle.front_end.proofs.Bounds.{refusal-stands, command-placed}
-use borrow.Author.Rules.{rules}
 use Rattle.front_end.proofs.decide.Goals as goal
 
 -- What the pattern took apart is what reading gives, and lies within the packet.

@@ -8,7 +8,6 @@ use Rattle.opcode.specs.Commands.{command_of}
 use Rattle.front_end.specs.Commands.{block_back, read_smooth}
 use Rattle.front_end.proofs.Bounds.{counts}
 use Rattle.front_end.proofs.Sizes.{known, place-within}
-use borrow.Author.Rules.{rules}
 use Rattle.front_end.proofs.fetch.Goals.{After-byte-in-56, After-size_of}
 use Rattle.front_end.proofs.fetch.Goals as goal
 

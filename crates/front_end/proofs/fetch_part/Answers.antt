@@ -4,7 +4,6 @@ use Prim.Native.Nat.{◌≤◌}
 use mathlib.Core.Path.{◌∙◌}
 use lib.ListN.{length, drop, length-drop}
 use Rattle.wire.proofs.Copies.{paste-over}
-use borrow.Author.Rules.{rules}
 use Rattle.front_end.proofs.fetch_part.Goals as goal
 
 pub returns : goal.returns

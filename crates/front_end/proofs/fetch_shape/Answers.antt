@@ -7,7 +7,6 @@ use lib.ListN.{length, drop, length-drop}
 use Rattle.wire.specs.Numbers.{byte_at}
 use Rattle.front_end.specs.Commands.{read_shape}
 use Rattle.wire.proofs.Copies.{byte-over}
-use borrow.Author.Rules.{rules}
 use Rattle.settings.specs.Layout.{lists_size, column_list, staged_shape}
 use Rattle.front_end.proofs.fetch_shape.Goals as goal
 

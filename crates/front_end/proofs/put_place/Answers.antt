@@ -5,7 +5,6 @@ use lib.Seq.{sets-eq}
 use borrow.Author.Tests.{eq-eqb, ne_eqb}
 use Rattle.wire.specs.Numbers.{word_bytes}
 use Rattle.wire.specs.Buffers.{over}
-use borrow.Author.Rules.{rules}
 use Rattle.front_end.proofs.put_place.Goals as goal
 
 pub returns-then-number-eq10 : goal.returns-then-number-eq10

@@ -10,7 +10,6 @@ use Rattle.settings.specs.Layout.{place_of, settings_end}
 use Rattle.front_end.specs.Commands.{block_after, write_smooth}
 use Rattle.front_end.proofs.Bounds.{write-data}
 use Rattle.front_end.proofs.Sizes.{shape_size, smooth-size, known, fixed-rest, place-within, write-whole}
-use borrow.Author.Rules.{rules}
 use Rattle.front_end.proofs.store.Goals.{After-size_of-size}
 use Rattle.front_end.proofs.store.Goals as goal
 

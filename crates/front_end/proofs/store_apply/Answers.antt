@@ -7,7 +7,6 @@ use Rattle.wire.specs.Numbers.{byte_at}
 use Rattle.front_end.specs.Commands.{apply_block}
 use Rattle.wire.proofs.Copies.{sets-paste}
 use Rattle.front_end.proofs.Blocks.{shape-applied}
-use borrow.Author.Rules.{rules}
 use Rattle.settings.specs.Layout.{enable}
 use Rattle.front_end.proofs.store_apply.Goals as goal
 

@@ -1,12 +1,10 @@
 -- In mode 1 four stores one behind the other, else one.
 use mathlib.Core.Path.{◌≡◌, sym, ◌∙◌}
-use native.Mathlib.Omega.{arith}
 use borrow.Author.Tests.{ne_eqb}
 use lib.ListN.{length}
 use Rattle.wire.specs.Numbers.{byte_at}
 use Rattle.front_end.specs.Commands.{write_shape, shape_bytes}
 use Rattle.front_end.proofs.Blocks.{lists-stored}
-use borrow.Author.Rules.{rules}
 use Rattle.settings.specs.Layout.{lists_size, shape_head}
 use Prim.Native.Nat.{◌+◌}
 use Rattle.front_end.proofs.store_shape.Goals.{Else-byte-eq1, Then-byte-eq1}

@@ -8,7 +8,6 @@ use Rattle.reply.proofs.Laws.{lent-on}
 use Rattle.front_end.specs.State.{data_room}
 use Rattle.front_end.proofs.ReadBack.{back_fits}
 use Rattle.front_end_bytes.specs.Bytes.{lent, state_in}
-use borrow.Author.Rules.{rules}
 use Rattle.front_end_bytes.proofs.answer_read.Goals.{After-fetch-n}
 use Rattle.front_end_bytes.proofs.answer_read.Goals as goal
 

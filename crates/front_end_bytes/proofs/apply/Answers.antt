@@ -3,7 +3,6 @@ use mathlib.Core.Path.{◌∙◌}
 use borrow.Author.Tests.{ne_eqb}
 use Rattle.front_end.specs.Commands.{apply_live}
 use Rattle.front_end_bytes.proofs.Moves.{lent-words, applied}
-use borrow.Author.Rules.{rules}
 use Rattle.front_end_bytes.proofs.apply.Goals as goal
 
 pub returns-then-opcode-ne54 : goal.returns-then-opcode-ne54

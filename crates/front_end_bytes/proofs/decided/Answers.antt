@@ -3,7 +3,6 @@ use Rattle.front_end.proofs.Bounds.{decision-fault}
 use Rattle.front_end.proofs.Demands.{lent}
 use Rattle.front_end.proofs.Grants.{answers-refusal}
 use Rattle.front_end_bytes.proofs.Ways.{Small, unchanged, in_bytes}
-use borrow.Author.Rules.{rules}
 use Rattle.front_end_bytes.proofs.decided.Goals as goal
 
 pub refuse-requires : goal.refuse-requires

@@ -4,7 +4,6 @@ use Prim.Native.Nat.{◌*◌}
 use native.Mathlib.Omega.{arith}
 use Rattle.front_end.specs.Commands.{read_gains}
 use Rattle.front_end_bytes.proofs.Moves.{fetched}
-use borrow.Author.Rules.{rules}
 use Rattle.front_end_bytes.proofs.fetch_gains.Goals as goal
 
 pub returns : goal.returns

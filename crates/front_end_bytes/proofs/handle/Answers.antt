@@ -2,9 +2,8 @@
 use mathlib.Core.Path.{◌≡◌}
 use Rattle.front_end_bytes.specs.Bytes.{Lent, lent, LentOut, step_bytes}
 use Rattle.front_end_bytes.specs.Promises.{HandledBytes}
-use Rattle.front_end_bytes.proofs.Ways.{Small, running, stopped-way}
+use Rattle.front_end_bytes.proofs.Ways.{Small, stopped-way}
 use Rattle.front_end_bytes.proofs.Promises.{handled-bytes}
-use borrow.Author.Rules.{rules}
 use Rattle.front_end_bytes.proofs.handle.Goals.{After-slice_known-4-1}
 use Rattle.front_end_bytes.proofs.handle.Goals as goal
 

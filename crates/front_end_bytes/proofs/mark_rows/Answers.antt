@@ -3,7 +3,6 @@ use native.Mathlib.Omega.{arith}
 use borrow.Author.Tests.{not-true, not-false}
 use Rattle.wire.specs.Tables.{words}
 use Rattle.front_end.proofs.Fresh.{rows-put, rows_left}
-use borrow.Author.Rules.{rules}
 use Rattle.front_end_bytes.proofs.mark_rows.Goals as goal
 
 pub returns-then-not-fresh : goal.returns-then-not-fresh

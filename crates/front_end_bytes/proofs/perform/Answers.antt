@@ -9,7 +9,6 @@ use Rattle.front_end.proofs.Grants.{inside, granted, answers-read, stores_write}
 use Rattle.front_end_bytes.specs.Bytes.{lent}
 use Rattle.front_end_bytes.specs.Plain.{BytesLent}
 use Rattle.front_end_bytes.proofs.Ways.{Small, sized, unchanged, in_bytes}
-use borrow.Author.Rules.{rules}
 use Rattle.front_end_bytes.proofs.perform.Goals.{After-slice_known-2-1, After-slice_known-4-1, Start}
 use Rattle.front_end_bytes.proofs.perform.Goals as goal
 
@@ -27,14 +26,14 @@ slice_bounds-data-end c = omega (arith, within (goal.at.slice_bounds-data-end c)
 
 pub answer_read-n-requires : goal.answer_read-n-requires
 answer_read-n-requires c = let size = sizes (goal.at.answer_read-n-requires c).Start in (
-      record {
-        granted = granted _ _ _ c.requires.1 _ _ _ _ c.requires.2;
-        reads = c.if-options-eq1.true;
-        staged-long = size.staged;
-        gains-long = size.gains;
-      },
-      (lent-right _ _ c.requires.1).room,
-    )
+  record {
+    granted = granted _ _ _ c.requires.1 _ _ _ _ c.requires.2;
+    reads = c.if-options-eq1.true;
+    staged-long = size.staged;
+    gains-long = size.gains;
+  },
+  (lent-right _ _ c.requires.1).room,
+)
 
 pub returns-then-options-eq1 : goal.returns-then-options-eq1
 returns-then-options-eq1 c = let small : Small _ =

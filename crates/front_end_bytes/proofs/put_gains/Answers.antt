@@ -1,8 +1,5 @@
 -- The gains sent are the words, or what the pairs stand for; they go over those from the place on, where their bytes lie.
 use mathlib.Core.Path.{sym, ◌∙◌}
-use native.Mathlib.Omega.{arith}
-use borrow.Author.Rules.{rules}
-use Rattle.front_end.proofs.Grants.{pairs-many, plain-many}
 use Rattle.front_end_bytes.proofs.Moves.{pairs-stored, plain-stored}
 use Rattle.front_end_bytes.proofs.put_gains.Goals.{After-slice_known-1}
 use Rattle.front_end_bytes.proofs.put_gains.Goals as goal

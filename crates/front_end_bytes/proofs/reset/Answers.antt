@@ -2,12 +2,10 @@
 use mathlib.Core.Path.{◌≡◌, sym, ◌∙◌}
 use mathlib.Core.Bool.{true}
 use native.Mathlib.Omega.{arith}
-use borrow.Author.Tests.{not-true, not-false}
 use Rattle.front_end_bytes.specs.Bytes.{Lent, lent, byte_lengths_right, reset_bytes}
 use Rattle.front_end_bytes.specs.Plain.{BytesLent}
 use Rattle.front_end_bytes.proofs.Ways.{sized, reset-way}
 use Rattle.front_end_bytes.proofs.Promises.{resets-bytes}
-use borrow.Author.Rules.{rules}
 use Rattle.front_end_bytes.proofs.reset.Goals.{Else-not-lengths_right}
 use Rattle.front_end_bytes.proofs.reset.Goals as goal
 

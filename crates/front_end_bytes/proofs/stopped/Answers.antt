@@ -1,11 +1,10 @@
 -- With every length in bytes right, every length in numbers is; then the reply buffer and the settings decide.
 use mathlib.Core.Path.{◌≡◌, sym, ◌∙◌}
 use mathlib.Core.Bool.{true}
-use borrow.Author.Tests.{not-true, not-false, lt-leb, le-leb}
+use borrow.Author.Tests.{lt-leb, le-leb}
 use Rattle.front_end_bytes.specs.Bytes.{Lent, lent, byte_lengths_right}
 use Rattle.front_end_bytes.specs.Plain.{BytesLent}
 use Rattle.front_end_bytes.proofs.Ways.{sized, stopped_by}
-use borrow.Author.Rules.{rules}
 use Rattle.front_end_bytes.proofs.stopped.Goals.{Else-not-lengths_right}
 use Rattle.front_end_bytes.proofs.stopped.Goals as goal
 

@@ -1,7 +1,6 @@
 -- Each part is left by its own function, as the command leaves it; the four calls touch four different parts.
 use Rattle.front_end.specs.Commands.{written}
 use Rattle.front_end.proofs.Grants.{writes-points, writes-gains}
-use borrow.Author.Rules.{rules}
 use Rattle.front_end_bytes.proofs.store.Goals as goal
 
 pub store_points-requires : goal.store_points-requires

@@ -1,13 +1,10 @@
 -- The gains of an accepted write lie within a third of the table; for colour 0 they are stored three times, a third apart.
 use mathlib.Core.Path.{sym, ap, ◌∙◌}
-use native.Mathlib.Omega.{arith}
 use borrow.Author.Tests.{ne_eqb}
 use Rattle.wire.specs.Tables.{words, bytes}
 use Rattle.settings.specs.Reset.{gains_size}
-use Rattle.front_end.specs.Internal.{GainsWrite}
 use Rattle.front_end.proofs.Grants.{gains-one}
 use Rattle.front_end_bytes.proofs.Moves.{lent-words, three-stored}
-use borrow.Author.Rules.{rules}
 use Rattle.front_end_bytes.proofs.store_gains.Goals.{After-gains_named-named}
 use Rattle.front_end_bytes.proofs.store_gains.Goals as goal
 

@@ -1,10 +1,8 @@
 -- The points' bytes are copied as they stand in the packet, from twice the place of their first number on.
 use mathlib.Core.Path.{◌∙◌}
-use native.Mathlib.Omega.{arith}
 use borrow.Author.Tests.{ne_eqb}
 use Rattle.settings.specs.Reset.{map_size}
 use Rattle.front_end_bytes.proofs.Moves.{lent-words, points-stored}
-use borrow.Author.Rules.{rules}
 use Rattle.front_end_bytes.proofs.store_points.Goals.{After-slice_known-1}
 use Rattle.front_end_bytes.proofs.store_points.Goals as goal
 

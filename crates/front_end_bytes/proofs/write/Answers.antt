@@ -1,6 +1,6 @@
 -- What is stored leaves a block on which the mark is worked out, from the maps as they are then.
 use Prim.Native.Nat.{ℕ}
-use mathlib.Core.Path.{◌≡◌, sym, ap, subst, ◌∙◌}
+use mathlib.Core.Path.{sym, ap, subst}
 use mathlib.Core.List.{List}
 use native.Mathlib.Omega.{arith}
 use Rattle.front_end_bytes.specs.Bytes.{Lent, lent, state_in}
@@ -8,7 +8,6 @@ use Rattle.front_end.specs.Commands.{written}
 use Rattle.front_end.specs.Internal.{MarkGranted}
 use Rattle.front_end.proofs.Fresh.{mark-granted}
 use Rattle.front_end_bytes.proofs.Moves.{marked-bytes}
-use borrow.Author.Rules.{rules}
 use Rattle.front_end_bytes.proofs.write.Goals as goal
 
 pub mark_rows-requires : goal.mark_rows-requires

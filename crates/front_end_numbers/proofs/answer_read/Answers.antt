@@ -9,7 +9,6 @@ use Rattle.opcode.specs.Options.{has_checksum}
 use Rattle.reply.proofs.Laws.{lent-on}
 use Rattle.front_end.specs.State.{data_room, state}
 use Rattle.front_end.proofs.ReadBack.{back_fits}
-use borrow.Author.Rules.{rules}
 use Rattle.front_end_numbers.proofs.answer_read.Goals.{After-fetch-n}
 use Rattle.front_end_numbers.proofs.answer_read.Goals as goal
 

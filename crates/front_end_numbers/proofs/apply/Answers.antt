@@ -1,7 +1,6 @@
 -- Unless opcode and data say 36h with 1, live stays; else it is copied whole.
 use borrow.Author.Tests.{ne_eqb}
 use Rattle.front_end.specs.Commands.{apply_live}
-use borrow.Author.Rules.{rules}
 use Rattle.front_end_numbers.proofs.apply.Goals as goal
 
 pub returns-then-byte-ne1 : goal.returns-then-byte-ne1

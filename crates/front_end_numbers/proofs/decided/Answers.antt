@@ -2,7 +2,6 @@
 use Rattle.front_end.proofs.Bounds.{decision-fault}
 use Rattle.front_end.proofs.Demands.{lent}
 use Rattle.front_end.proofs.Grants.{answers-refusal}
-use borrow.Author.Rules.{rules}
 use Rattle.front_end_numbers.proofs.decided.Goals as goal
 
 pub refuse-requires : goal.refuse-requires

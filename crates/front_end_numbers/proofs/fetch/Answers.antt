@@ -2,7 +2,6 @@
 use borrow.Author.Tests.{ne_eqb}
 use Rattle.front_end.specs.Commands.{data_back}
 use Rattle.front_end.proofs.Grants.{reads-points, reads-gains}
-use borrow.Author.Rules.{rules}
 use Rattle.front_end_numbers.proofs.fetch.Goals as goal
 
 pub fetch_points-requires : goal.fetch_points-requires

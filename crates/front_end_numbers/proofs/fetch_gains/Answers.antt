@@ -2,7 +2,6 @@
 use native.Mathlib.Omega.{arith}
 use Rattle.front_end.specs.Commands.{read_gains}
 use Rattle.front_end_numbers.proofs.Returned.{bytes-long}
-use borrow.Author.Rules.{rules}
 use Rattle.front_end_numbers.proofs.fetch_gains.Goals as goal
 
 pub returns : goal.returns

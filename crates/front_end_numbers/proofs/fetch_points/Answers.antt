@@ -3,7 +3,6 @@ use Prim.Native.Nat.{◌*◌}
 use native.Mathlib.Omega.{arith}
 use Rattle.front_end.specs.Commands.{read_points}
 use Rattle.front_end_numbers.proofs.Returned.{bytes-long}
-use borrow.Author.Rules.{rules}
 use Rattle.front_end_numbers.proofs.fetch_points.Goals as goal
 
 pub returns : goal.returns

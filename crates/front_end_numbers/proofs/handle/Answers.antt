@@ -2,7 +2,6 @@
 use mathlib.Core.Path.{sym, ◌∙◌}
 use Rattle.front_end.proofs.Steps.{step-stopped}
 use Rattle.front_end.proofs.Handled.{handled}
-use borrow.Author.Rules.{rules}
 use Rattle.front_end_numbers.proofs.handle.Goals as goal
 
 pub returns-then-stopped : goal.returns-then-stopped

@@ -6,7 +6,6 @@ use lib.ListN.{length}
 use Rattle.opcode.specs.Options.{is_read}
 use Rattle.front_end.proofs.Demands.{lent}
 use Rattle.front_end.proofs.Grants.{inside, granted, answers-read, stores_write}
-use borrow.Author.Rules.{rules}
 use Rattle.front_end_numbers.proofs.perform.Goals.{Start}
 use Rattle.front_end_numbers.proofs.perform.Goals as goal
 
@@ -21,14 +20,14 @@ slice_bounds-data-end c = omega (arith, within (goal.at.slice_bounds-data-end c)
 
 pub answer_read-n-requires : goal.answer_read-n-requires
 answer_read-n-requires c = let l = lent _ _ c.requires.0 in (
-      record {
-        granted = granted _ _ _ c.requires.0 _ _ _ _ c.requires.1;
-        reads = c.if-options-eq1.true;
-        staged-long = omega (arith, l);
-        gains-long = omega (arith, l);
-      },
-      l.room,
-    )
+  record {
+    granted = granted _ _ _ c.requires.0 _ _ _ _ c.requires.1;
+    reads = c.if-options-eq1.true;
+    staged-long = omega (arith, l);
+    gains-long = omega (arith, l);
+  },
+  l.room,
+)
 
 pub returns-then-options-eq1 : goal.returns-then-options-eq1
 returns-then-options-eq1 c = answers-read _ _ _ c.requires.0 _ _ _ _ c.requires.1 c.if-options-eq1.true c.answer_read-n.ensures

@@ -1,8 +1,7 @@
 -- The gains sent are the words, or what the pairs stand for; they go over those from the place on.
 use mathlib.Core.Path.{sym, ◌∙◌}
 use native.Mathlib.Omega.{arith}
-use borrow.Author.Rules.{rules}
-use Rattle.front_end.proofs.Grants.{pairs-many, plain-many, pairs-into, plain-into}
+use Rattle.front_end.proofs.Grants.{pairs-into}
 use Rattle.front_end_numbers.proofs.put_gains.Goals as goal
 
 pub returns-then-in_pairs : goal.returns-then-in_pairs

@@ -1,11 +1,9 @@
 -- A wrong length changes nothing; else every byte and number is written, and the tables have the lengths of those after reset.
 use mathlib.Core.Path.{◌≡◌, sym, ◌∙◌}
 use mathlib.Core.Bool.{true}
-use borrow.Author.Tests.{not-true, not-false}
 use Rattle.front_end.specs.State.{State, state, lengths_right, reset}
 use Rattle.front_end.proofs.Demands.{state-lent, resets}
 use Rattle.front_end_numbers.proofs.Lent.{map-reset, gains-reset}
-use borrow.Author.Rules.{rules}
 use Rattle.front_end_numbers.proofs.reset.Goals.{Start}
 use Rattle.front_end_numbers.proofs.reset.Goals as goal
 

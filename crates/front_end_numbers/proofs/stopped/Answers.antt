@@ -1,9 +1,6 @@
 -- The tests are those of refusal 1, in its order.
-use mathlib.Core.Path.{sym, ◌∙◌}
-use borrow.Author.Tests.{not-true, not-false, lt-leb, le-leb}
-use Rattle.front_end.specs.State.{State, state, stopped}
-use Rattle.front_end.proofs.Demands.{state-lent}
-use borrow.Author.Rules.{rules}
+use borrow.Author.Tests.{lt-leb, le-leb}
+use Rattle.front_end.specs.State.{stopped}
 use Rattle.front_end_numbers.proofs.stopped.Goals.{Start}
 use Rattle.front_end_numbers.proofs.stopped.Goals as goal
 

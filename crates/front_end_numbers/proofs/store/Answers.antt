@@ -1,7 +1,6 @@
 -- The four stores are those of the definition, each on its own part; live is written first, from the staged map as it was.
 use Rattle.front_end.specs.Commands.{written}
 use Rattle.front_end.proofs.Grants.{writes-points, writes-gains}
-use borrow.Author.Rules.{rules}
 use Rattle.front_end_numbers.proofs.store.Goals as goal
 
 pub store_points-requires : goal.store_points-requires

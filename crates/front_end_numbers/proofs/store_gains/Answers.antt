@@ -1,10 +1,6 @@
 -- The gains of an accepted write lie within a third of the table; for colour 0 they are stored three times, a third apart.
 use mathlib.Core.Path.{sym, ◌∙◌}
-use native.Mathlib.Omega.{arith}
-use borrow.Author.Tests.{ne_eqb}
-use Rattle.front_end.specs.Internal.{GainsWrite}
 use Rattle.front_end.proofs.Grants.{gains-one, gains-three}
-use borrow.Author.Rules.{rules}
 use Rattle.front_end_numbers.proofs.store_gains.Goals.{After-gains_named-named}
 use Rattle.front_end_numbers.proofs.store_gains.Goals as goal
 

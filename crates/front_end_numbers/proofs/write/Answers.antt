@@ -1,14 +1,12 @@
 -- What is stored leaves a block on which the mark is worked out, from the maps as they are then.
 use Prim.Native.Nat.{ℕ}
-use mathlib.Core.Path.{◌≡◌, sym, ap, subst, ◌∙◌}
+use mathlib.Core.Path.{sym, ap, subst}
 use mathlib.Core.List.{List}
 use native.Mathlib.Omega.{arith}
 use Rattle.front_end.specs.State.{State}
 use Rattle.front_end.specs.Commands.{written}
-use Rattle.front_end.specs.Mark.{marked}
 use Rattle.front_end.specs.Internal.{MarkGranted}
 use Rattle.front_end.proofs.Fresh.{mark-granted}
-use borrow.Author.Rules.{rules}
 use Rattle.front_end_numbers.proofs.write.Goals as goal
 
 pub mark_rows-requires : goal.mark_rows-requires

@@ -4,7 +4,6 @@ use native.Mathlib.Omega.{arith}
 use Rattle.opcode.proofs.Below.{carried-below}
 use Rattle.packet.proofs.Makes.{no_place, made-small, made-large, made-refused, made-judged}
 use Rattle.packet.proofs.Promises.{make-promised}
-use borrow.Author.Rules.{rules}
 use Rattle.packet.proofs.make.Goals as goal
 
 pub returns-then-buffer-lt-LONGEST : goal.returns-then-buffer-lt-LONGEST

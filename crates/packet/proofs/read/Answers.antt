@@ -1,13 +1,10 @@
 -- A broken frame's refusal is handed on; the command of a sound one is judged on the part of the packet that holds its data.
-use mathlib.Core.Path.{◌≡◌, sym, ◌∙◌}
+use mathlib.Core.Path.{sym, ◌∙◌}
 use native.Mathlib.Omega.{arith}
 use borrow.Author.Tests.{eq-eqb, ne_eqb}
 use Rattle.opcode.proofs.Below.{carried-below}
-use Rattle.packet.specs.Reading.{command_at}
-use Rattle.packet.specs.Internal.{framed}
 use Rattle.packet.proofs.Frames.{broken-read, stands, judged-read}
 use Rattle.packet.proofs.Promises.{read-promised}
-use borrow.Author.Rules.{rules}
 use Rattle.packet.proofs.read.Goals as goal
 
 pub returns-in_default : goal.returns-in_default

@@ -1,12 +1,6 @@
 use Rattle.playback.proofs.Turns.{answer-done, reply-fits}
 use native.Mathlib.Omega.{arith}
-use mathlib.Core.Path.{refl, sym, ap, ◌∙◌}
-use borrow.Author.Tests.{lt-ltb, le-ltb, le-leb, lt-leb, eq-eqb, ne_eqb}
-use borrow.Author.Rules.{rules}
-use Rattle.playback.proofs.answer.Reads as reads
-use Rattle.playback.proofs.answer.Lts as lts
-use Rattle.front_end_numbers.proofs.handle.Reads as handle-reads
-use Rattle.playback.proofs.put_line.Reads as put-line-reads
+use mathlib.Core.Path.{refl}
 use Rattle.playback.proofs.answer.Goals as goal
 
 -- src/lib.rt:142:9

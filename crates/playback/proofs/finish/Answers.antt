@@ -1,12 +1,6 @@
 use native.Mathlib.Omega.{arith}
 use Rattle.playback.proofs.Lines.{puts-behind}
-use Rattle.playback.proofs.Closing.{puts-as, puts-nothing, puts-length, closing-short, closing-most, closing-none, closing_lines}
-use borrow.Author.Rules.{rules}
-use Rattle.playback.proofs.finish.Reads as reads
-use Rattle.playback.proofs.finish.Lts as lts
-use Rattle.playback.proofs.put_cut.Reads as put-cut-reads
-use Rattle.playback.proofs.put_end.Reads as put-end-reads
-use Rattle.text.proofs.put_text.Reads as put-text-reads
+use Rattle.playback.proofs.Closing.{puts-as, puts-length, closing-none, closing_lines}
 use Rattle.playback.proofs.finish.Goals as goal
 
 -- src/lib.rt:180:9

@@ -1,11 +1,6 @@
 use native.Mathlib.Omega.{arith}
 use Rattle.playback.proofs.Lines.{puts-behind}
-use Rattle.playback.proofs.Closing.{puts-as, puts-nothing, no_cut, one-cut}
-use borrow.Author.Rules.{rules}
-use Rattle.playback.proofs.put_cut.Reads as reads
-use Rattle.playback.proofs.put_cut.Lts as lts
-use Rattle.text.proofs.put_number.Reads as put-number-reads
-use Rattle.text.proofs.put_text.Reads as put-text-reads
+use Rattle.playback.proofs.Closing.{puts-as, one-cut}
 use Rattle.playback.proofs.put_cut.Goals as goal
 
 -- src/lib.rt:187:1

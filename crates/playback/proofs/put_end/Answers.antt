@@ -1,10 +1,5 @@
 use native.Mathlib.Omega.{arith}
 use Rattle.playback.proofs.Lines.{puts-behind}
-use borrow.Author.Rules.{rules}
-use Rattle.playback.proofs.put_end.Reads as reads
-use Rattle.playback.proofs.put_end.Lts as lts
-use Rattle.text.proofs.put_number.Reads as put-number-reads
-use Rattle.text.proofs.put_text.Reads as put-text-reads
 use Rattle.playback.proofs.put_end.Goals as goal
 
 -- src/lib.rt:199:1

@@ -1,14 +1,6 @@
 use Rattle.playback.proofs.Lines.{puts-behind}
 use Rattle.playback.specs.Replay.{line}
 use native.Mathlib.Omega.{arith}
-use mathlib.Core.Path.{refl, sym, ap, ◌∙◌}
-use borrow.Author.Tests.{lt-ltb, le-ltb, le-leb, lt-leb, eq-eqb, ne_eqb}
-use borrow.Author.Rules.{rules}
-use Rattle.playback.proofs.put_line.Reads as reads
-use Rattle.playback.proofs.put_line.Lts as lts
-use Rattle.text.proofs.put_hex.Reads as put-hex-reads
-use Rattle.text.proofs.put_number.Reads as put-number-reads
-use Rattle.text.proofs.put_text.Reads as put-text-reads
 use Rattle.playback.proofs.put_line.Goals as goal
 
 -- src/lib.rt:153:1

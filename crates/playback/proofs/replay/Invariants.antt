@@ -1,16 +1,8 @@
-use borrow.Author.Tests.{not-true, not-false}
 use Prim.Native.Nat.{◌-◌}
-use mathlib.Core.Path.{◌≡◌, refl, sym, ap, ◌∙◌}
+use mathlib.Core.Path.{◌≡◌}
 use lib.ListN.{length}
-use native.Mathlib.Omega.{arith}
 use Rattle.front_end.specs.State.{state}
-use Rattle.playback.proofs.Turns.{Loop, roomy, window-none, loop-start, loop-turn, room-true, window-all, window-full}
-use borrow.Author.Rules.{rules}
-use Rattle.playback.proofs.replay.Reads as reads
-use Rattle.playback.proofs.replay.Lts as lts
-use Rattle.playback.proofs.has_room.Reads as has-room-reads
-use Rattle.playback.proofs.rooms_right.Reads as rooms-right-reads
-use Rattle.playback.proofs.turn.Reads as turn-reads
+use Rattle.playback.proofs.Turns.{Loop}
 use Rattle.playback.proofs.replay.Given as goal
 
 abbrev pub invariant-loop-p : goal.invariant-loop-p

@@ -1,10 +1,4 @@
-use native.Mathlib.Omega.{arith}
 use Rattle.playback.proofs.Turns.{turned_none, turned-window, turned-kept}
-use borrow.Author.Rules.{rules}
-use Rattle.playback.proofs.turn.Reads as reads
-use Rattle.playback.proofs.turn.Lts as lts
-use Rattle.playback.proofs.answer.Reads as answer-reads
-use Rattle.session_file.proofs.next.Reads as next-reads
 use Rattle.playback.proofs.turn.Goals as goal
 
 -- src/lib.rt:115:9

@@ -1,5 +1,4 @@
 -- Each return: the tests before it failed and its own held, so the list of refusals gives its number; or all failed.
-use borrow.Author.Rules.{rules}
 use borrow.Author.Tests.{lt-ltb, le-ltb, eq-eqb, ne_eqb}
 use Rattle.reply.specs.Reading.{reply_reading}
 use Rattle.reply.proofs.Promises.{reply-promised}

@@ -1,7 +1,6 @@
 -- The head's stores, and with a checksum one more behind them, put the reply over the buffer.
 use mathlib.Core.Bool.{true, false}
 use native.Mathlib.Omega.{arith}
-use borrow.Author.Rules.{rules}
 use Rattle.reply.proofs.Laws.{sealed-length, sealed-plain, sealed-summed}
 use Rattle.reply.proofs.seal.Goals as goal
 

@@ -3,7 +3,6 @@ use Prim.Native.Nat.{ℕ, ◌*◌, ◌%◌, ◌^◌, ◌<◌}
 use mathlib.Core.Path.{◌≡◌}
 use native.Mathlib.Nat.{mod-eq_of_lt, one-mul}
 use lib.Pow.{pow-lt}
-use borrow.Author.Rules.{rules}
 use Rattle.row_mark.proofs.Bits.{bit-set, bit-clear, bit-there}
 use Rattle.row_mark.proofs.put_bit.Goals as goal
 

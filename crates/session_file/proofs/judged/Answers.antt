@@ -1,13 +1,7 @@
 use Rattle.session_file.specs.Windows.{after_taking}
 use native.Mathlib.Omega.{arith}
 use mathlib.Core.Path.{refl, ◌∙◌}
-use borrow.Author.Tests.{lt-ltb, le-ltb, le-leb, lt-leb, eq-eqb, ne_eqb}
-use borrow.Author.Rules.{rules}
-use Rattle.session_file.proofs.judged.Reads as reads
-use Rattle.session_file.proofs.judged.Lts as lts
-use Rattle.session_file.proofs.least.Reads as least-reads
-use Rattle.session_file.proofs.none_yet.Reads as none-yet-reads
-use Rattle.wire.proofs.word.Reads as word-reads
+use borrow.Author.Tests.{lt-ltb, le-ltb}
 use Rattle.session_file.proofs.judged.Goals as goal
 
 -- src/lib.rt:169:9

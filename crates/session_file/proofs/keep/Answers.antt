@@ -1,11 +1,6 @@
 use mathlib.Core.Path.{refl, ◌∙◌}
 use Rattle.session_file.specs.Windows.{kept_after}
-use borrow.Author.Tests.{lt-ltb, le-ltb, le-leb, lt-leb, eq-eqb, ne_eqb}
-use borrow.Author.Rules.{rules}
-use Rattle.session_file.proofs.keep.Reads as reads
-use Rattle.session_file.proofs.keep.Lts as lts
-use Rattle.session_file.proofs.least.Reads as least-reads
-use Rattle.wire.proofs.copy.Reads as copy-reads
+use borrow.Author.Tests.{lt-ltb, le-ltb}
 use Rattle.session_file.proofs.keep.Goals as goal
 
 -- src/lib.rt:155:9

@@ -1,12 +1,8 @@
-use mathlib.Core.Path.{refl, ◌∙◌}
+use mathlib.Core.Path.{refl}
 use native.Mathlib.Omega.{arith}
 use mathlib.Core.Path.{refl}
 use Rattle.session_file.specs.Windows.{lacking}
-use borrow.Author.Tests.{lt-ltb, le-ltb, le-leb, lt-leb, eq-eqb, ne_eqb}
-use borrow.Author.Rules.{rules}
-use Rattle.session_file.proofs.missing.Reads as reads
-use Rattle.session_file.proofs.missing.Lts as lts
-use Rattle.wire.proofs.word.Reads as word-reads
+use borrow.Author.Tests.{lt-ltb, le-ltb, le-leb, lt-leb}
 use Rattle.session_file.proofs.missing.Goals as goal
 
 -- src/lib.rt:140:9

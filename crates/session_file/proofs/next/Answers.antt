@@ -1,15 +1,7 @@
-use mathlib.Core.Path.{◌≡◌, refl, sym, ap, ◌∙◌}
+use mathlib.Core.Path.{refl, sym, ◌∙◌}
 use native.Mathlib.Omega.{arith}
 use Rattle.session_file.proofs.Steps.{next-preamble, kept-preamble, next-spoiled, kept-spoiled, next-whole, kept_whole, whole-first, whole-lies}
 use Rattle.session_file.proofs.Steps.{step-done, within_none, within-whole, preamble-follows, spoiled-follows, five-left, start-follows, more-done}
-use borrow.Author.Rules.{rules}
-use Rattle.session_file.proofs.next.Reads as reads
-use Rattle.session_file.proofs.next.Lts as lts
-use Rattle.session_file.proofs.lies_whole.Reads as lies-whole-reads
-use Rattle.session_file.proofs.preamble_byte.Reads as preamble-byte-reads
-use Rattle.session_file.proofs.more.Reads as more-reads
-use Rattle.session_file.proofs.none_yet.Reads as none-yet-reads
-use Rattle.session_file.proofs.whole_at.Reads as whole-at-reads
 use Rattle.session_file.proofs.next.Goals as goal
 
 -- src/lib.rt:50:9

@@ -1,12 +1,6 @@
-use native.Mathlib.Numerals.{add-one}
 use Rattle.session_file.specs.Session.{matched_by}
 use mathlib.Core.Path.{refl, ◌∙◌}
-use borrow.Author.Tests.{lt-ltb, le-ltb, le-leb, lt-leb, eq-eqb, ne_eqb}
-use borrow.Author.Rules.{rules}
-use Rattle.session_file.proofs.preamble_byte.Reads as reads
-use Rattle.session_file.proofs.preamble_byte.Lts as lts
-use Rattle.session_file.proofs.preamble_at.Reads as preamble-at-reads
-use Rattle.session_file.proofs.none_yet.Reads as none-yet-reads
+use borrow.Author.Tests.{eq-eqb, ne_eqb}
 use Rattle.session_file.proofs.preamble_byte.Goals as goal
 
 -- src/lib.rt:73:9

@@ -10,7 +10,6 @@ use Rattle.opcode.specs.Commands.{command_of}
 use Rattle.opcode.specs.Fields.{span}
 use Rattle.settings.specs.Ranges.{right, behind_port, for_each, update_mode, device_fields}
 use Rattle.settings.proofs.Laws.{right-append, right-byte, device-runs}
-use borrow.Author.Rules.{rules}
 use Rattle.settings.specs.Layout.{lock_place, pin_count, pin_place, pwm_count, pwm_place, uart_place, uart_size, update_place}
 use Rattle.settings.proofs.device_in_range.Goals as goal
 

@@ -10,7 +10,6 @@ use Rattle.opcode.specs.Commands.{command_of}
 use Rattle.settings.specs.Ranges.{right, fields_of, picture_fields, device_fields, shape_right, settings_right}
 use Rattle.settings.proofs.Laws.{right-byte}
 use Rattle.settings.proofs.Allowed.{in-range}
-use borrow.Author.Rules.{rules}
 use Rattle.settings.specs.Layout.{enable, live_shape, smooth_table, staged_shape, update_place}
 use Rattle.settings.proofs.in_range.Goals as goal
 

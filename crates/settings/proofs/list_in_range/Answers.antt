@@ -1,9 +1,8 @@
 -- The loop keeps what the numbers passed come to, joined to what is still to be judged.
-use Prim.Native.Nat.{◌+◌, ◌*◌, ◌-◌, ◌<◌}
+use Prim.Native.Nat.{◌+◌, ◌*◌}
 use mathlib.Core.Path.{◌≡◌, sym, ◌∙◌}
-use mathlib.Core.Bool.{◌&&◌, and_comm}
+use mathlib.Core.Bool.{and_comm}
 use native.Mathlib.Omega.{arith}
-use Rattle.settings.specs.Ranges.{rising}
 use Rattle.settings.proofs.Lists.{rising-turn, rising-done}
 use Rattle.settings.proofs.list_in_range.Goals as goal
 

@@ -1,10 +1,8 @@
 -- The loop keeps what the numbers passed come to, joined to what is still to be judged.
 use Prim.Native.Nat.{◌+◌, ◌*◌, ◌-◌, ◌<◌}
-use mathlib.Core.Path.{◌≡◌, sym, ◌∙◌}
-use mathlib.Core.Bool.{◌&&◌, and_comm}
-use native.Mathlib.Omega.{arith}
+use mathlib.Core.Path.{◌≡◌}
+use mathlib.Core.Bool.{◌&&◌}
 use Rattle.settings.specs.Ranges.{rising}
-use Rattle.settings.proofs.Lists.{rising-turn, rising-done}
 use Rattle.settings.proofs.list_in_range.Given as goal
 
 abbrev pub invariant-loop-i : goal.invariant-loop-i

@@ -12,7 +12,6 @@ use Rattle.opcode.specs.Fields.{from_to_but, takes}
 use Rattle.opcode.specs.Commands.{command_of, any_word}
 use Rattle.settings.specs.Ranges.{right, picture_fields}
 use Rattle.settings.proofs.Laws.{takes-byte}
-use borrow.Author.Rules.{rules}
 use Rattle.settings.proofs.picture_in_range.Goals as goal
 
 -- Rule 5.1, 1Ah: curtain colour 0, 2-8.
@@ -46,11 +45,11 @@ parts d b =
 
 pub returns : goal.returns
 returns c = rw (
-      c.up_to.ensures,
-      c.up_to-fine-4.ensures,
-      c.both-fine.ensures,
-      c.up_to-fine-3.ensures,
-      c.up_to-fine-2.ensures,
-      c.up_to-fine.ensures,
-    )
+  c.up_to.ensures,
+  c.up_to-fine-4.ensures,
+  c.both-fine.ensures,
+  c.up_to-fine-3.ensures,
+  c.up_to-fine-2.ensures,
+  c.up_to-fine.ensures,
+)
     (sym (parts c.args.block.now (λ k. (c.type_inv.block k).fits)))

@@ -1,11 +1,10 @@
 -- The fields of 88 pins are 264 flags. The loop keeps what the flags passed come to, joined to what is still to be judged.
-use Prim.Native.Nat.{◌+◌, ◌-◌, ◌≤◌}
+use Prim.Native.Nat.{◌+◌}
 use mathlib.Core.Path.{◌≡◌, refl, sym, ◌∙◌}
-use mathlib.Core.Bool.{◌&&◌}
 use mathlib.Core.List.{[], ◌∷◌}
 use native.Mathlib.Omega.{arith}
 use Rattle.opcode.specs.Commands.{command_of, flag}
-use Rattle.settings.specs.Ranges.{right, behind_port, for_each}
+use Rattle.settings.specs.Ranges.{behind_port, for_each}
 use Rattle.settings.proofs.Laws.{right-byte, each_turn, each-done}
 use Rattle.settings.specs.Layout.{pin_count, pin_place}
 use Rattle.settings.proofs.pins_in_range.Goals as goal

@@ -7,7 +7,6 @@ use borrow.Author.Tests.{ne_eqb}
 use lib.Dec.{eqb}
 use Rattle.wire.specs.Numbers.{byte_at}
 use Rattle.settings.specs.Layout.{at, place_of}
-use borrow.Author.Rules.{rules}
 use Rattle.settings.proofs.place_of.Goals as goal
 
 either : (t : Bool) (port : ℕ) → 0 ≡ (cond t (at 0x11 0) (at 0 0)).first + (cond t (at 0x11 0) (at 0 0)).step * port

@@ -1,10 +1,9 @@
 -- The loop keeps what the ports passed come to, joined to what is still to be judged.
-use Prim.Native.Nat.{◌+◌, ◌*◌, ◌-◌, ◌≤◌}
-use mathlib.Core.Path.{◌≡◌, refl, sym, ◌∙◌}
-use mathlib.Core.Bool.{◌&&◌}
+use Prim.Native.Nat.{◌+◌, ◌*◌}
+use mathlib.Core.Path.{◌≡◌, sym, ◌∙◌}
 use native.Mathlib.Omega.{arith}
 use Rattle.opcode.specs.Commands.{command_of}
-use Rattle.settings.specs.Ranges.{right, behind_port, for_each}
+use Rattle.settings.specs.Ranges.{behind_port}
 use Rattle.settings.proofs.Laws.{each_turn, each-done}
 use Rattle.settings.specs.Layout.{pwm_count, pwm_place, pwm_size}
 use Rattle.settings.proofs.pwm_in_range.Goals as goal

@@ -1,11 +1,8 @@
 -- The loop keeps what the ports passed come to, joined to what is still to be judged.
 use Prim.Native.Nat.{◌+◌, ◌*◌, ◌-◌, ◌≤◌}
-use mathlib.Core.Path.{◌≡◌, refl, sym, ◌∙◌}
+use mathlib.Core.Path.{◌≡◌}
 use mathlib.Core.Bool.{◌&&◌}
-use native.Mathlib.Omega.{arith}
-use Rattle.opcode.specs.Commands.{command_of}
 use Rattle.settings.specs.Ranges.{right, behind_port, for_each}
-use Rattle.settings.proofs.Laws.{each_turn, each-done}
 use Rattle.settings.specs.Layout.{pwm_count, pwm_place, pwm_size}
 use Rattle.settings.proofs.pwm_in_range.Given as goal
 

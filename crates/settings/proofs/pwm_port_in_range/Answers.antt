@@ -10,7 +10,6 @@ use Rattle.opcode.specs.Fields.{from_to, takes}
 use Rattle.opcode.specs.Commands.{command_of}
 use Rattle.settings.specs.Ranges.{right, behind_port}
 use Rattle.settings.proofs.Laws.{takes-byte}
-use borrow.Author.Rules.{rules}
 use Rattle.settings.proofs.pwm_port_in_range.Goals as goal
 
 parts : (d : List ℕ) (fine : Bool) (at : ℕ)

@@ -1,6 +1,5 @@
 -- The five runs of stores are those of the law.
 use Rattle.settings.proofs.Resets.{shape-over}
-use borrow.Author.Rules.{rules}
 use Rattle.settings.proofs.reset_shape.Goals as goal
 
 pub returns : goal.returns

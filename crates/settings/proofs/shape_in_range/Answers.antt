@@ -9,7 +9,6 @@ use Rattle.opcode.specs.Fields.{from_to, takes}
 use Rattle.opcode.specs.Commands.{command_of}
 use Rattle.settings.specs.Layout.{mode_at, columns_at, rows_at}
 use Rattle.settings.specs.Ranges.{right, rising, shape_right}
-use borrow.Author.Rules.{rules}
 use Rattle.settings.proofs.shape_in_range.Goals as goal
 
 parts : (d : List ℕ) (shape : ℕ)

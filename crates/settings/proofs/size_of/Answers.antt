@@ -1,5 +1,4 @@
 -- Each arm's opcode makes the sizes come out at its size; any other that is carried has one byte.
-use Prim.Native.Nat.{ℕ}
 use native.Mathlib.Omega.{arith}
 use borrow.Author.Tests.{ne_eqb}
 use Rattle.settings.specs.Internal.{size_by_opcode}

@@ -1,9 +1,8 @@
 -- The loop keeps that the first i bytes are stored. That a place is within the block is asked of every turn.
-use mathlib.Core.Path.{◌≡◌, refl}
-use Prim.Native.Nat.{◌-◌, ◌≤◌}
+use mathlib.Core.Path.{refl}
 use native.Mathlib.Numerals.{add-one}
 use native.Mathlib.Omega.{arith}
-use lib.ListN.{length, length-set}
+use lib.ListN.{length-set}
 use Rattle.settings.specs.Internal.{spread_over}
 use Rattle.settings.proofs.spread.Goals as goal
 

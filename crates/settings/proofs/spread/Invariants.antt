@@ -1,9 +1,7 @@
 -- The loop keeps that the first i bytes are stored. That a place is within the block is asked of every turn.
-use mathlib.Core.Path.{◌≡◌, refl}
+use mathlib.Core.Path.{◌≡◌}
 use Prim.Native.Nat.{◌-◌, ◌≤◌}
-use native.Mathlib.Numerals.{add-one}
-use native.Mathlib.Omega.{arith}
-use lib.ListN.{length, length-set}
+use lib.ListN.{length}
 use Rattle.settings.specs.Internal.{spread_over}
 use Rattle.settings.proofs.spread.Given as goal
 

@@ -1,11 +1,6 @@
 -- The loop keeps that the first i numbers are stored.
-use Prim.Native.Nat.{◌*◌, ◌-◌, ◌≤◌}
-use mathlib.Core.Path.{◌≡◌, refl}
 use native.Mathlib.Omega.{arith}
-use lib.ListN.{length}
-use lib.Seq.{sets, length-sets}
-use Rattle.wire.specs.Tables.{bytes}
-use Rattle.settings.specs.Reset.{count_up}
+use lib.Seq.{length-sets}
 use Rattle.settings.proofs.Resets.{count_turn}
 use Rattle.settings.proofs.store_counting.Goals as goal
 

@@ -1,12 +1,10 @@
 -- The loop keeps that the first i numbers are stored.
-use Prim.Native.Nat.{◌*◌, ◌-◌, ◌≤◌}
-use mathlib.Core.Path.{◌≡◌, refl}
-use native.Mathlib.Omega.{arith}
+use Prim.Native.Nat.{◌-◌, ◌≤◌}
+use mathlib.Core.Path.{◌≡◌}
 use lib.ListN.{length}
-use lib.Seq.{sets, length-sets}
+use lib.Seq.{sets}
 use Rattle.wire.specs.Tables.{bytes}
 use Rattle.settings.specs.Reset.{count_up}
-use Rattle.settings.proofs.Resets.{count_turn}
 use Rattle.settings.proofs.store_counting.Given as goal
 
 abbrev pub invariant-loop-i : goal.invariant-loop-i

@@ -5,7 +5,6 @@ use Rattle.opcode.specs.Fields.{byte}
 use Rattle.opcode.specs.Commands.{command_of}
 use Rattle.settings.specs.Ranges.{behind_port}
 use Rattle.settings.proofs.Laws.{bytes-first}
-use borrow.Author.Rules.{rules}
 use Rattle.settings.proofs.uart_port_in_range.Goals as goal
 
 fields : behind_port 0x6D ≡ map (byte 0) (1 ∷ 11 ∷ 3 ∷ 1 ∷ 2 ∷ 1 ∷ 4 ∷ 4 ∷ 1 ∷ 1 ∷ [])

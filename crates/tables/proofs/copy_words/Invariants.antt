@@ -1,9 +1,7 @@
 -- The loop copies to the start of the table; at the end the copy is all of it.
 use Prim.Native.Nat.{◌-◌}
-use mathlib.Core.Path.{refl}
-use native.Mathlib.Omega.{arith}
 use lib.ListN.{length}
-use Rattle.tables.proofs.Loops.{Begun, start, turn, whole}
+use Rattle.tables.proofs.Loops.{Begun}
 use Rattle.tables.proofs.copy_words.Given as goal
 
 abbrev pub invariant-loop-i : goal.invariant-loop-i

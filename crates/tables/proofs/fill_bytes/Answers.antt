@@ -1,11 +1,10 @@
 -- The loop writes the bytes of as many times the number as the table holds; at the end that is all of it.
-use Prim.Native.Nat.{◌-◌, ◌*◌, ◌/◌}
+use Prim.Native.Nat.{◌/◌}
 use mathlib.Core.Path.{sym}
 use native.Mathlib.Omega.{arith}
 use lib.ListN.{length, replicate, length-replicate, get_or-replicate}
-use Rattle.wire.specs.Tables.{bytes}
 use Rattle.wire.proofs.Tables.{length-halves}
-use Rattle.tables.proofs.Loops.{Begun, start, turn-word, whole}
+use Rattle.tables.proofs.Loops.{turn-word, whole}
 use Rattle.tables.proofs.fill_bytes.Goals as goal
 
 pub loop-i-preserved : goal.loop-i-preserved

@@ -1,11 +1,8 @@
 -- The loop writes the bytes of as many times the number as the table holds; at the end that is all of it.
-use Prim.Native.Nat.{◌-◌, ◌*◌, ◌/◌}
-use mathlib.Core.Path.{sym}
-use native.Mathlib.Omega.{arith}
-use lib.ListN.{length, replicate, length-replicate, get_or-replicate}
+use Prim.Native.Nat.{◌-◌, ◌*◌}
+use lib.ListN.{replicate}
 use Rattle.wire.specs.Tables.{bytes}
-use Rattle.wire.proofs.Tables.{length-halves}
-use Rattle.tables.proofs.Loops.{Begun, start, turn-word, whole}
+use Rattle.tables.proofs.Loops.{Begun}
 use Rattle.tables.proofs.fill_bytes.Given as goal
 
 abbrev pub invariant-loop-i : goal.invariant-loop-i

@@ -1,9 +1,7 @@
 -- The loop writes as many times the number as the table is long; at the end that is all of it.
 use Prim.Native.Nat.{◌-◌}
-use mathlib.Core.Path.{sym}
-use native.Mathlib.Omega.{arith}
-use lib.ListN.{length, replicate, length-replicate, get_or-replicate}
-use Rattle.tables.proofs.Loops.{Begun, start, turn, whole}
+use lib.ListN.{length, replicate}
+use Rattle.tables.proofs.Loops.{Begun}
 use Rattle.tables.proofs.fill_words.Given as goal
 
 abbrev pub invariant-loop-i : goal.invariant-loop-i

@@ -1,12 +1,11 @@
 -- What is left to write makes the goal: a pair fills its run and moves the place, and at the end nothing is left.
-use Prim.Native.Nat.{ℕ, ◌+◌, ◌*◌, ◌-◌, ◌≤◌}
-use mathlib.Core.Path.{◌≡◌, refl, ◌∙◌}
+use Prim.Native.Nat.{ℕ, ◌+◌}
+use mathlib.Core.Path.{◌≡◌, ◌∙◌}
 use mathlib.Core.List.{List}
 use native.Mathlib.Omega.{arith}
-use lib.ListN.{length, drop}
-use lib.Seq.{sets}
+use lib.ListN.{drop}
 use Rattle.wire.specs.Tables.{words}
-use Rattle.gain_words.specs.Pairs.{expand, sum_runs}
+use Rattle.gain_words.specs.Pairs.{sum_runs}
 use Rattle.gain_words.proofs.Walk.{PairAt, pair-at, words-few}
 use Rattle.tables.proofs.Parts.{runs-turn, runs-left, runs_done}
 use Rattle.tables.proofs.runs_in.Goals.{After-number-gain}

@@ -1,14 +1,10 @@
 -- What is left to write makes the goal: a pair fills its run and moves the place, and at the end nothing is left.
-use Prim.Native.Nat.{ℕ, ◌+◌, ◌*◌, ◌-◌, ◌≤◌}
-use mathlib.Core.Path.{◌≡◌, refl, ◌∙◌}
-use mathlib.Core.List.{List}
-use native.Mathlib.Omega.{arith}
+use Prim.Native.Nat.{◌+◌, ◌*◌, ◌-◌, ◌≤◌}
+use mathlib.Core.Path.{◌≡◌}
 use lib.ListN.{length, drop}
 use lib.Seq.{sets}
 use Rattle.wire.specs.Tables.{words, bytes}
 use Rattle.gain_words.specs.Pairs.{expand, sum_runs}
-use Rattle.gain_words.proofs.Walk.{PairAt, pair-at, words-few}
-use Rattle.tables.proofs.Parts.{runs-turn-bytes, runs-left, runs_done}
 use Rattle.tables.proofs.runs_in_bytes.Given as goal
 
 abbrev pub invariant-loop-i : goal.invariant-loop-i

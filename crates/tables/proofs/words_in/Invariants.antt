@@ -1,11 +1,8 @@
 -- The loop copies the numbers that the bytes hold, of which a turn makes one.
 use Prim.Native.Nat.{◌-◌}
-use mathlib.Core.Path.{◌∙◌}
-use native.Mathlib.Omega.{arith}
-use lib.ListN.{drop, length-drop}
+use lib.ListN.{drop}
 use Rattle.wire.specs.Tables.{words}
-use Rattle.wire.proofs.Laws.{Copying, start, turn, done}
-use Rattle.wire.proofs.Tables.{length_pairs, number_at}
+use Rattle.wire.proofs.Laws.{Copying}
 use Rattle.tables.proofs.words_in.Given as goal
 
 abbrev pub invariant-loop-i : goal.invariant-loop-i

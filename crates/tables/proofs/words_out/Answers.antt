@@ -1,12 +1,11 @@
 -- The loop writes the bytes of the numbers over the start, a number a turn.
-use Prim.Native.Nat.{◌-◌, ◌+◌, ◌*◌}
+use Prim.Native.Nat.{◌+◌}
 use mathlib.Core.Path.{◌≡◌}
 use native.Mathlib.Omega.{arith}
-use lib.ListN.{length, take, drop, get_or}
+use lib.ListN.{take, drop, get_or}
 use lib.Seq.{get_or-take, get_or-drop}
-use Rattle.wire.specs.Tables.{bytes}
 use Rattle.wire.proofs.Tables.{length-halves}
-use Rattle.tables.proofs.Loops.{Begun, start, part-long, turn-word, done}
+use Rattle.tables.proofs.Loops.{part-long, turn-word, done}
 use Rattle.tables.proofs.words_out.Goals as goal
 
 pub loop-i-preserved : goal.loop-i-preserved

@@ -1,6 +1,6 @@
 -- The loop takes off four digits a turn; the one to four that are left are counted by tests.
 use native.Mathlib.Omega.{arith}
-use Rattle.text.proofs.Number.{Counting, count-start, count_turn, count_most, count-one, count-tens, count-hundreds, count-thousands}
+use Rattle.text.proofs.Number.{count-start, count_turn, count_most, count-one, count-tens, count-hundreds, count-thousands}
 use Rattle.text.proofs.count.Goals as goal
 
 pub loop-rest-init : goal.loop-rest-init

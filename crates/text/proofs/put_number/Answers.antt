@@ -1,5 +1,4 @@
 -- There is room for the most digits that a number has, so for those that it has.
-use borrow.Author.Rules.{rules}
 use native.Mathlib.Omega.{arith}
 use Rattle.text.proofs.Forms.{length-decimal, decimal-right}
 use Rattle.text.proofs.put_number.Goals as goal

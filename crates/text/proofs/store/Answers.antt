@@ -1,8 +1,7 @@
 -- The loop keeps that the digits taken off stand behind `end`; the one or two that are left come to the start.
 use native.Mathlib.Omega.{arith}
-use Rattle.text.proofs.Number.{Storing, store-start, store-turn, store_long, store-end, store-room, store-room-two, store-one, store_two}
+use Rattle.text.proofs.Number.{store-start, store-turn, store_long, store-end, store-room, store-room-two, store-one, store_two}
 use mathlib.Core.Path.{◌∙◌}
-use borrow.Author.Rules.{rules}
 use Rattle.text.proofs.store.Goals as goal
 
 pub loop-rest-init : goal.loop-rest-init

@@ -1,8 +1,7 @@
 -- The loop keeps what the bytes passed weigh; a turn weighs one more.
-use Prim.Native.Nat.{ℕ, ◌*◌, ◌-◌, ◌<◌}
 use native.Mathlib.Omega.{arith}
-use lib.ListN.{take, get_or}
-use Rattle.wire.proofs.Sums.{checksum-agrees, Weighing, weighing-start, weighing-turn, weighing-done, weighed-small}
+use lib.ListN.{take}
+use Rattle.wire.proofs.Sums.{checksum-agrees, weighing-start, weighing-turn, weighing-done}
 use Rattle.wire.proofs.checksum.Goals as goal
 
 pub loop-i-init : goal.loop-i-init

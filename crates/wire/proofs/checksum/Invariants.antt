@@ -1,8 +1,6 @@
 -- The loop keeps what the bytes passed weigh; a turn weighs one more.
-use Prim.Native.Nat.{ℕ, ◌*◌, ◌-◌, ◌<◌}
-use native.Mathlib.Omega.{arith}
-use lib.ListN.{take, get_or}
-use Rattle.wire.proofs.Sums.{checksum-agrees, Weighing, weighing-start, weighing-turn, weighing-done, weighed-small}
+use Prim.Native.Nat.{◌-◌}
+use Rattle.wire.proofs.Sums.{Weighing}
 use Rattle.wire.proofs.checksum.Given as goal
 
 abbrev pub invariant-loop-i : goal.invariant-loop-i

@@ -1,10 +1,9 @@
 -- The loop keeps what the law on copying says: the first k bytes stand in their place.
 use mathlib.Core.Path.{sym}
-use Prim.Native.Nat.{◌-◌}
 use native.Mathlib.Omega.{arith}
-use lib.ListN.{drop, length-drop}
+use lib.ListN.{length-drop}
 use lib.Seq.{get_or-drop}
-use Rattle.wire.proofs.Laws.{Copying, start, turn, done}
+use Rattle.wire.proofs.Laws.{turn}
 use Rattle.wire.proofs.copy.Goals as goal
 
 pub loop-k-preserved : goal.loop-k-preserved

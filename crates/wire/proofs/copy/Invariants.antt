@@ -1,10 +1,7 @@
 -- The loop keeps what the law on copying says: the first k bytes stand in their place.
-use mathlib.Core.Path.{sym}
 use Prim.Native.Nat.{◌-◌}
-use native.Mathlib.Omega.{arith}
-use lib.ListN.{drop, length-drop}
-use lib.Seq.{get_or-drop}
-use Rattle.wire.proofs.Laws.{Copying, start, turn, done}
+use lib.ListN.{drop}
+use Rattle.wire.proofs.Laws.{Copying}
 use Rattle.wire.proofs.copy.Given as goal
 
 abbrev pub invariant-loop-k : goal.invariant-loop-k

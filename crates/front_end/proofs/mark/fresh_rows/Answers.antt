@@ -2,7 +2,6 @@
 use mathlib.Core.Path.{refl}
 use Rattle.front_end.specs.Internal.{MarkGranted}
 use Rattle.front_end.proofs.Fresh.{touched-fresh, shape-fresh, rest-fresh}
-use borrow.Author.Rules.{rules}
 use Rattle.front_end.proofs.mark.fresh_rows.Goals as goal
 
 pub returns-in-52 : goal.returns-in-52

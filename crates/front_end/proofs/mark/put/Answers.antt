@@ -1,6 +1,5 @@
 -- Two words, one behind the other, are the mark's four bytes.
 use Rattle.front_end.proofs.Fresh.{mark-stored}
-use borrow.Author.Rules.{rules}
 use Rattle.front_end.proofs.mark.put.Goals as goal
 
 pub returns : goal.returns

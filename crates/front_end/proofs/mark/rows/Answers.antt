@@ -2,7 +2,6 @@
 use borrow.Author.Tests.{eq-eqb, ne_eqb}
 use Rattle.front_end.specs.Mark.{rows_told}
 use Rattle.front_end.proofs.Fresh.{mark-small, rows-promised}
-use borrow.Author.Rules.{rules}
 use Rattle.front_end.proofs.mark.rows.Goals as goal
 
 pub returns-then-block-ne-BLOCK_SIZE : goal.returns-then-block-ne-BLOCK_SIZE

@@ -1,10 +1,8 @@
 -- The loop keeps how far the rest of the gains goes: one in range is passed, another ends the count.
-use Prim.Native.Nat.{◌+◌, ◌*◌, ◌-◌, ◌≤◌}
-use mathlib.Core.Path.{◌≡◌, ◌∙◌}
+use mathlib.Core.Path.{◌∙◌}
 use native.Mathlib.Omega.{arith}
-use lib.ListN.{length, drop}
+use lib.ListN.{drop}
 use Rattle.wire.specs.Tables.{words}
-use Rattle.gain_words.specs.Gains.{first_large}
 use Rattle.gain_words.proofs.Walk.{large-turn, large-stop, large-done, word_in, words-few}
 use Rattle.gain_words.proofs.bytes.first_large.Goals as goal
 

@@ -1,11 +1,9 @@
 -- The loop keeps how far the rest of the gains goes: one in range is passed, another ends the count.
 use Prim.Native.Nat.{◌+◌, ◌*◌, ◌-◌, ◌≤◌}
-use mathlib.Core.Path.{◌≡◌, ◌∙◌}
-use native.Mathlib.Omega.{arith}
+use mathlib.Core.Path.{◌≡◌}
 use lib.ListN.{length, drop}
 use Rattle.wire.specs.Tables.{words}
 use Rattle.gain_words.specs.Gains.{first_large}
-use Rattle.gain_words.proofs.Walk.{large-turn, large-stop, large-done, word_in, words-few}
 use Rattle.gain_words.proofs.bytes.first_large.Given as goal
 
 abbrev pub invariant-loop-i : goal.invariant-loop-i

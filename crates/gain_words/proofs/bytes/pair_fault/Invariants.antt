@@ -1,14 +1,9 @@
 -- The loop keeps how far the rest of the words goes: a pair in range is passed, a word at fault ends the count.
-use Prim.Native.Nat.{ℕ, ◌+◌, ◌*◌, ◌-◌, ◌≤◌}
-use mathlib.Core.Path.{◌≡◌, sym, ◌∙◌}
-use mathlib.Core.Bool.{false}
-use mathlib.Core.List.{List}
-use native.Mathlib.Omega.{arith}
+use Prim.Native.Nat.{◌+◌, ◌*◌, ◌-◌, ◌≤◌}
+use mathlib.Core.Path.{◌≡◌}
 use lib.ListN.{length, drop}
 use Rattle.wire.specs.Tables.{words}
-use Rattle.wire.proofs.Tables.{number_at}
-use Rattle.gain_words.specs.Pairs.{pair_fault, run_wrong}
-use Rattle.gain_words.proofs.Walk.{fault-run, fault-gain, fault-turn, fault-done, PairAt, pair-at, words_count, words-few}
+use Rattle.gain_words.specs.Pairs.{pair_fault}
 use Rattle.gain_words.proofs.bytes.pair_fault.Given as goal
 
 abbrev pub invariant-loop-i : goal.invariant-loop-i

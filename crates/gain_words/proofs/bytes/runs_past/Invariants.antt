@@ -1,14 +1,9 @@
 -- The loop keeps the sum: what is added and what is left are all runs.
-use Prim.Native.Nat.{◌+◌, ◌*◌, ◌-◌, ◌≤◌, ◌<◌}
-use mathlib.Core.Path.{◌≡◌, sym, ap, ◌∙◌}
-use native.Mathlib.Omega.{arith}
-use borrow.Author.Tests.{lt-ltb}
+use Prim.Native.Nat.{◌+◌, ◌*◌, ◌-◌, ◌≤◌}
+use mathlib.Core.Path.{◌≡◌}
 use lib.ListN.{length, drop}
-use lib.Dec.{ltb}
 use Rattle.wire.specs.Tables.{words}
-use Rattle.wire.proofs.Tables.{number_at}
-use Rattle.gain_words.specs.Pairs.{colour_gains, sum_runs}
-use Rattle.gain_words.proofs.Walk.{sum-turn, sum_done, words_count, words-few}
+use Rattle.gain_words.specs.Pairs.{sum_runs}
 use Rattle.gain_words.proofs.bytes.runs_past.Given as goal
 
 abbrev pub invariant-loop-i : goal.invariant-loop-i

@@ -1,9 +1,6 @@
 -- The loop keeps how far the rest of the words goes: a pair in range is passed, a word at fault ends the count.
-use Prim.Native.Nat.{◌+◌, ◌-◌, ◌≤◌}
-use mathlib.Core.Path.{◌≡◌, refl, sym, ◌∙◌}
+use mathlib.Core.Path.{refl, sym, ◌∙◌}
 use native.Mathlib.Omega.{arith}
-use lib.ListN.{length, drop}
-use Rattle.gain_words.specs.Pairs.{pair_fault}
 use Rattle.gain_words.proofs.Walk.{fault-run, fault-gain, fault-turn, fault-done}
 use Rattle.gain_words.proofs.numbers.pair_fault.Goals as goal
 

@@ -1,9 +1,7 @@
 -- The loop keeps the sum: what is added and what is left are all runs.
-use Prim.Native.Nat.{◌+◌, ◌-◌, ◌≤◌, ◌<◌}
-use mathlib.Core.Path.{◌≡◌, sym, ap}
+use Prim.Native.Nat.{◌+◌}
+use mathlib.Core.Path.{◌≡◌, ap}
 use native.Mathlib.Omega.{arith}
-use borrow.Author.Tests.{lt-ltb}
-use lib.ListN.{length, drop}
 use lib.Dec.{ltb}
 use Rattle.gain_words.specs.Pairs.{colour_gains, sum_runs}
 use Rattle.gain_words.proofs.Walk.{sum-turn, sum_done}

@@ -1,10 +1,6 @@
 -- The loop keeps what is left to judge: the answer is that of the rest of the fields, which have the rest of the bytes, from the place reached.
-use mathlib.Core.Path.{◌≡◌, refl, sym, ◌∙◌}
-use Prim.Native.Nat.{◌+◌, ◌-◌, ◌≤◌}
+use mathlib.Core.Path.{sym, ◌∙◌}
 use native.Mathlib.Omega.{arith}
-use lib.ListN.{drop}
-use Rattle.opcode.specs.Fields.{span, «fault»}
-use Rattle.opcode.specs.Internal.{sent}
 use Rattle.opcode.proofs.Laws.{span-turn, fault-turn, fault-stop, fault-done}
 use Rattle.opcode.proofs.fields.fault.Goals as goal
 

@@ -1,12 +1,9 @@
 -- The loop keeps what is left to judge: the answer is that of the rest of the fields, which have the rest of the bytes, from the place reached.
-use mathlib.Core.Path.{◌≡◌, refl, sym, ◌∙◌}
+use mathlib.Core.Path.{◌≡◌}
 use Prim.Native.Nat.{◌+◌, ◌-◌, ◌≤◌}
-use native.Mathlib.Omega.{arith}
-use borrow.Author.Tests.{not-true, not-false}
 use lib.ListN.{drop}
 use Rattle.opcode.specs.Fields.{span, «fault»}
 use Rattle.opcode.specs.Internal.{sent}
-use Rattle.opcode.proofs.Laws.{span-turn, fault-turn, fault-stop, fault-done}
 use Rattle.opcode.proofs.fields.fault.Given as goal
 
 abbrev pub invariant-loop-at : goal.invariant-loop-at

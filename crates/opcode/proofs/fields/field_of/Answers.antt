@@ -1,6 +1,5 @@
 -- A read of 2Bh and 34h by its own; another goes by what a write starts with.
 use mathlib.Core.List.{[], ◌∷◌}
-use mathlib.Core.Logic.{⊎_elim}
 use Rattle.opcode.proofs.Rows.{same, asked}
 use Rattle.opcode.proofs.fields.field_of.Goals as goal
 use Rattle.opcode.proofs.fields.field_of.Goals.{then-reads+else-opcode-eq43+else-opcode-eq52, else-reads}

@@ -1,6 +1,5 @@
 -- The head, or the words.
 use mathlib.Core.Path.{refl}
-use native.Mathlib.Omega.{arith}
 use borrow.Author.Tests.{lt-ltb, le-ltb}
 use Rattle.opcode.specs.Commands.{command_of}
 use Rattle.opcode.specs.Judgement.{gains_fault}

@@ -1,5 +1,4 @@
 -- The tests are the definition's, of the count there.
-use native.Mathlib.Omega.{arith}
 use Rattle.opcode.specs.Judgement.{gains_size_wrong}
 use Rattle.opcode.proofs.judgement.gains_size_wrong.Goals as goal
 

@@ -1,5 +1,4 @@
 -- The first list, or the second.
-use native.Mathlib.Omega.{arith}
 use borrow.Author.Tests.{lt-ltb, le-ltb}
 use Rattle.opcode.specs.Judgement.{lists_fault}
 use Rattle.opcode.proofs.judgement.lists_fault.Goals as goal

@@ -1,9 +1,7 @@
 -- The loop keeps that the numbers up to the i-th rise; a stretch has the first fault, or is passed.
-use mathlib.Core.Path.{◌≡◌}
-use Prim.Native.Nat.{◌+◌, ◌*◌, ◌-◌, ◌≤◌, ◌<◌}
 use native.Mathlib.Omega.{arith}
-use Rattle.opcode.specs.Internal.{stretch_steps, RisenTo}
-use Rattle.opcode.proofs.Laws.{risen-start, risen-here, risen-past}
+use Rattle.opcode.specs.Internal.{stretch_steps}
+use Rattle.opcode.proofs.Laws.{risen-here, risen-past}
 use Rattle.opcode.proofs.lists.rise.Goals as goal
 
 pub returns-then-risen-le-STRETCH : goal.returns-then-risen-le-STRETCH

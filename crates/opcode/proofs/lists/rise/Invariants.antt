@@ -1,9 +1,6 @@
 -- The loop keeps that the numbers up to the i-th rise; a stretch has the first fault, or is passed.
-use mathlib.Core.Path.{◌≡◌}
-use Prim.Native.Nat.{◌+◌, ◌*◌, ◌-◌, ◌≤◌, ◌<◌}
-use native.Mathlib.Omega.{arith}
-use Rattle.opcode.specs.Internal.{stretch_steps, RisenTo}
-use Rattle.opcode.proofs.Laws.{risen-start, risen-here, risen-past}
+use Prim.Native.Nat.{◌-◌}
+use Rattle.opcode.specs.Internal.{RisenTo}
 use Rattle.opcode.proofs.lists.rise.Given as goal
 
 abbrev pub invariant-loop-i : goal.invariant-loop-i

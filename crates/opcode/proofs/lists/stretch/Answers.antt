@@ -1,13 +1,13 @@
 -- The loop keeps that the numbers up to the i-th rise.
 use mathlib.Core.Path.{◌≡◌, sym, ◌∙◌}
 use mathlib.Core.Bool.{true, false}
-use Prim.Native.Nat.{◌+◌, ◌*◌, ◌-◌, ◌≤◌}
+use Prim.Native.Nat.{◌+◌, ◌*◌}
 use native.Mathlib.Omega.{arith}
 use borrow.Author.Tests.{ltb-true, ltb-false}
 use Rattle.wire.specs.Numbers.{word_at}
 use Rattle.wire.proofs.Tests.{told}
-use Rattle.opcode.specs.Internal.{stretch_steps, RisenTo}
-use Rattle.opcode.proofs.Laws.{risen-start, risen-end, risen-down, risen-up}
+use Rattle.opcode.specs.Internal.{stretch_steps}
+use Rattle.opcode.proofs.Laws.{risen-end, risen-down, risen-up}
 use Rattle.opcode.proofs.lists.stretch.Goals as goal
 
 pub returns-then-not-next_above : goal.returns-then-not-next_above

@@ -1,13 +1,6 @@
 -- The loop keeps that the numbers up to the i-th rise.
-use mathlib.Core.Path.{◌≡◌, sym, ◌∙◌}
-use mathlib.Core.Bool.{true, false}
-use Prim.Native.Nat.{◌+◌, ◌*◌, ◌-◌, ◌≤◌}
-use native.Mathlib.Omega.{arith}
-use borrow.Author.Tests.{ltb-true, ltb-false}
-use Rattle.wire.specs.Numbers.{word_at}
-use Rattle.wire.proofs.Tests.{told}
+use Prim.Native.Nat.{◌+◌, ◌-◌, ◌≤◌}
 use Rattle.opcode.specs.Internal.{stretch_steps, RisenTo}
-use Rattle.opcode.proofs.Laws.{risen-start, risen-end, risen-down, risen-up}
 use Rattle.opcode.proofs.lists.stretch.Given as goal
 
 abbrev pub invariant-loop-i : goal.invariant-loop-i

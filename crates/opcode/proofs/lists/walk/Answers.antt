@@ -1,8 +1,5 @@
 -- The loop keeps that the numbers up to the i-th rise; the next one is the first fault, or is passed.
-use mathlib.Core.Path.{◌≡◌}
-use Prim.Native.Nat.{◌+◌, ◌*◌, ◌-◌, ◌≤◌}
 use native.Mathlib.Omega.{arith}
-use Rattle.opcode.specs.Internal.{RisenTo}
 use Rattle.opcode.proofs.Laws.{risen-end, risen-down, risen-up}
 use Rattle.opcode.proofs.lists.walk.Goals as goal
 

@@ -1,13 +1,12 @@
 -- Four points a turn, as two numbers of 64 bits in each map.
-use Prim.Native.Nat.{ℕ, ◌+◌, ◌-◌, ◌*◌, ◌≤◌}
+use Prim.Native.Nat.{ℕ, ◌+◌, ◌*◌}
 use mathlib.Core.Path.{◌≡◌, sym, subst, ◌∙◌}
 use mathlib.Core.List.{List}
 use native.Mathlib.Omega.{arith}
 use Rattle.wire.specs.Tables.{words}
 use Rattle.wire.proofs.Tables.{length_pairs}
-use Rattle.row_mark.proofs.Walk.{Alike, PointSame, alike-start, alike-many, many-differ, alike_end, either-differs, neither-differs}
+use Rattle.row_mark.proofs.Walk.{Alike, PointSame, alike-many, many-differ, alike_end, either-differs, neither-differs}
 use Rattle.row_mark.proofs.Points.{two_longs, four_same, four-other}
-use borrow.Author.Rules.{rules}
 use Rattle.row_mark.proofs.bytes.fours_differ.Goals.{After-two_points-in-loop-i-3}
 use Rattle.row_mark.proofs.bytes.fours_differ.Goals as goal
 

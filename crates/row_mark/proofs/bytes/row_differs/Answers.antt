@@ -9,7 +9,6 @@ use Rattle.wire.specs.Tables.{words}
 use Rattle.wire.proofs.Tables.{length_pairs}
 use Rattle.row_mark.specs.Rows.{points_differ}
 use Rattle.row_mark.proofs.Walk.{two-parts}
-use borrow.Author.Rules.{rules}
 use Rattle.row_mark.proofs.bytes.row_differs.Goals as goal
 
 in-fours : (a b : List ℕ) (start columns : ℕ) → 4 * (start + columns) ≤ length a → 4 * (start + columns) ≤ length b

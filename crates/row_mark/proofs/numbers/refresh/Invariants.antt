@@ -1,13 +1,8 @@
 -- A row a turn: its bit, and no other.
-use Prim.Native.Nat.{◌-◌, ◌≤◌}
-use mathlib.Core.Path.{refl, ◌∙◌, ap}
-use mathlib.Core.Bool.{Bool}
-use native.Mathlib.Omega.{arith}
-use lib.ListN.{set}
+use Prim.Native.Nat.{◌-◌}
 use Rattle.row_mark.specs.Bits.{bits_of}
 use Rattle.row_mark.specs.Rows.{row_differs}
-use Rattle.row_mark.proofs.Rows.{Refreshing, refreshing-turn, refreshing-done, row_room}
-use borrow.Author.Rules.{rules}
+use Rattle.row_mark.proofs.Rows.{Refreshing}
 use Rattle.row_mark.proofs.numbers.refresh.Given as goal
 
 abbrev pub invariant-loop-row : goal.invariant-loop-row

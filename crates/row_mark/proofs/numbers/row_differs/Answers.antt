@@ -1,11 +1,8 @@
 -- One point after another; the row differs at the first that does.
-use Prim.Native.Nat.{◌-◌, ◌*◌, ◌≤◌}
+use Prim.Native.Nat.{◌*◌}
 use mathlib.Core.Path.{sym}
 use native.Mathlib.Omega.{arith}
-use Rattle.row_mark.proofs.Walk.{Alike, alike-start, alike-on, alike-differs, alike_end, either-differs, neither-differs}
-use borrow.Author.Rules.{rules}
-use Rattle.row_mark.proofs.numbers.row_differs.Reads as reads
-use Rattle.row_mark.proofs.numbers.row_differs.Lts as lts
+use Rattle.row_mark.proofs.Walk.{alike-on, alike-differs, alike_end, either-differs, neither-differs}
 use Rattle.row_mark.proofs.numbers.row_differs.Goals as goal
 
 -- src/numbers.rt:40:13

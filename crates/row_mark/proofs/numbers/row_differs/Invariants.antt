@@ -1,11 +1,6 @@
 -- One point after another; the row differs at the first that does.
-use Prim.Native.Nat.{◌-◌, ◌*◌, ◌≤◌}
-use mathlib.Core.Path.{sym}
-use native.Mathlib.Omega.{arith}
-use Rattle.row_mark.proofs.Walk.{Alike, alike-start, alike-on, alike-differs, alike_end, either-differs, neither-differs}
-use borrow.Author.Rules.{rules}
-use Rattle.row_mark.proofs.numbers.row_differs.Reads as reads
-use Rattle.row_mark.proofs.numbers.row_differs.Lts as lts
+use Prim.Native.Nat.{◌-◌, ◌≤◌}
+use Rattle.row_mark.proofs.Walk.{Alike}
 use Rattle.row_mark.proofs.numbers.row_differs.Given as goal
 
 abbrev pub invariant-loop-i : goal.invariant-loop-i
