@@ -52,8 +52,8 @@ same_state s t =
     && same_list s.live t.live
     && same_list s.gains t.gains
 
-abbrev same_out-sound : Out → Out → Bool
-same_out-sound o q =
+abbrev same_out : Out → Out → Bool
+same_out o q =
     eqb o.status q.status
     && eqb o.fault-place q.fault-place
     && eqb o.size q.size
@@ -72,14 +72,14 @@ same_plan o q =
 
 abbrev holds : BenchRow → Bool
 holds (packets r) =
-    lengths_right (state_after r.before) && same_out-sound (step r.packet (state_after r.before) buffer) (packet_out r)
+    lengths_right (state_after r.before) && same_out (step r.packet (state_after r.before) buffer) (packet_out r)
 holds (plans r) = eqb (planned r.n r.held r.wanted blank).status 0 && same_plan (planned r.n r.held r.wanted blank) (plan_row_out r)
 
-abbrev all_hold-true : List BenchRow → Bool
-all_hold-true [] = true
-all_hold-true (r ∷ rs) = holds r && all_hold-true rs
+abbrev all_hold : List BenchRow → Bool
+all_hold [] = true
+all_hold (r ∷ rs) = holds r && all_hold rs
 
-all_hold-true : T (all_hold-true rows)
+all_hold-true : T (all_hold rows)
 unfolding checksum over fault words_at rise_from rise first_large expand sum_runs pair_fault command_of judgement points_size_wrong gains_size_wrong control_size_wrong smooth_size_wrong size_wrong words_fault gains_fault lists_fault control_fault smooth_fault value_fault reply_bytes place_of picture_fields device_fields right shape_right settings_right reset_shape reset_block reset_map reset_gains stopped colour_into read_gains read_points shape_bytes write_shape read_shape apply_block apply_live write_smooth read_smooth block_after written bits_of of_bits differ each_from refreshed mark_after marked_block block_back data_back runs_past number_of reply_to step state_after_all packet_of differs best rooms more choices firsts plan_from plan_of packet_for packets_of joined batch_of plan_numbers planned
 all_hold-true = tt
 
@@ -98,7 +98,7 @@ T_true false t = absurd t
 
 ruleset parts = (and_left, and_right, eqb→eq, same-list)
 
-same_out-sound : (o q : Out) → T (same_out-sound o q) → o ≡ q
+same_out-sound : (o q : Out) → T (same_out o q) → o ≡ q
 same_out-sound o q t =
     let status : o.status ≡ q.status = search parts depth 12 in
     let fault-place : o.fault-place ≡ q.fault-place = search parts depth 12 in
@@ -130,8 +130,8 @@ same-plan o q t =
 packet-holds : (r : PacketRow) → T (holds (packets r)) → PacketHolds r
 packet-holds r t =
     let s : State = state_after r.before in
-    let right = and_left (lengths_right s) (same_out-sound (step r.packet s buffer) (packet_out r)) t in
-    let same : step r.packet s buffer ≡ packet_out r = same_out-sound _ _ (and_right (lengths_right s) (same_out-sound (step r.packet s buffer) (packet_out r)) t) in
+    let right = and_left (lengths_right s) (same_out (step r.packet s buffer) (packet_out r)) t in
+    let same : step r.packet s buffer ≡ packet_out r = same_out-sound _ _ (and_right (lengths_right s) (same_out (step r.packet s buffer) (packet_out r)) t) in
     record {
       on-numbers = λ o h. h.outcome ∙ same;
       on-bytes = λ o h. h.outcome ∙ step-bytes r.packet s buffer ((state-lent s).0 (T_true _ right)) ∙ ap out_bytes same;
@@ -147,12 +147,12 @@ plan-holds r t =
       on-bytes = λ o h. h.outcome ∙ plan-bytes r.n r.held r.wanted blank done ∙ ap byte_plan_out same;
     }
 
-each_holds : (rs : List BenchRow) → T (all_hold-true rs) → EachHolds rs
+each_holds : (rs : List BenchRow) → T (all_hold rs) → EachHolds rs
 each_holds [] t = EachHolds.none
 each_holds (packets r ∷ rs) t =
-    EachHolds.packet (packet-holds r (and_left (holds (packets r)) (all_hold-true rs) t)) (each_holds rs (and_right (holds (packets r)) (all_hold-true rs) t))
+    EachHolds.packet (packet-holds r (and_left (holds (packets r)) (all_hold rs) t)) (each_holds rs (and_right (holds (packets r)) (all_hold rs) t))
 each_holds (plans r ∷ rs) t =
-    EachHolds.plan (plan-holds r (and_left (holds (plans r)) (all_hold-true rs) t)) (each_holds rs (and_right (holds (plans r)) (all_hold-true rs) t))
+    EachHolds.plan (plan-holds r (and_left (holds (plans r)) (all_hold rs) t)) (each_holds rs (and_right (holds (plans r)) (all_hold rs) t))
 
 pub rows-hold : EachHolds rows
 rows-hold = each_holds rows all_hold-true

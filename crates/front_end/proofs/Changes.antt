@@ -71,15 +71,15 @@ way p s reply =
 
 -- The bytes of the block that a command owns, from its opcode and data alone: no packet of another command writes there, but that 61h has the
 -- middle byte of 60h's three.
-abbrev pub own_place : ℕ → List ℕ → ℕ
-own_place op d = cond (eqb op 0x35) staged_shape (cond (eqb op 0x36) enable (cond (eqb op 0x38) smooth_table (place_of op d)))
+abbrev pub own_first : ℕ → List ℕ → ℕ
+own_first op d = cond (eqb op 0x35) staged_shape (cond (eqb op 0x36) enable (cond (eqb op 0x38) smooth_table (place_of op d)))
 
 abbrev pub own_end : ℕ → List ℕ → ℕ
 own_end op d = cond (eqb op 0x35) enable (cond (eqb op 0x36) smooth_table (cond (eqb op 0x38) update_place (place_of op d + (command_of op).back)))
 
 -- A copy of n elements into the block: inside the bytes that the command owns, and so it ends where the settings end; and beside the live shape.
 pub record Copy (op : ℕ) (d from : List ℕ) (to n : ℕ) : Type 0 where
-  pub owned-from : own_place op d ≤ to
+  pub owned-from : own_first op d ≤ to
   pub owned-to : to + n ≤ own_end op d
   pub ends : to + n ≤ settings_end
   pub beside : min (smooth_table - to) (to + n - live_shape) ≡ 0
@@ -146,7 +146,7 @@ module _ (op o : ℕ) (d : List ℕ) (h : is_read o ≡ 0) (e : first (judgement
   unfolding place_of
   other-copy k =
       let m = fixed-rest op o d e k.not-gains k.not-points k.not-shape k.not-smooth in
-      let own_place : own_place op d ≡ place_of op d = rw (ne_eqb op 0x35 k.not-shape, ne_eqb op 0x36 k.not-apply, ne_eqb op 0x38 k.not-smooth) in
+      let own_place : own_first op d ≡ place_of op d = rw (ne_eqb op 0x35 k.not-shape, ne_eqb op 0x36 k.not-apply, ne_eqb op 0x38 k.not-smooth) in
       let own-end : own_end op d ≡ place_of op d + (command_of op).back =
       rw (ne_eqb op 0x35 k.not-shape, ne_eqb op 0x36 k.not-apply, ne_eqb op 0x38 k.not-smooth) in
       record {

@@ -10,7 +10,7 @@ use Rattle.wire.specs.First.{first}
 use Rattle.opcode.specs.Options.{options_in}
 use Rattle.opcode.specs.Judgement.{judgement, fault_place}
 use Rattle.packet.specs.Frame.{fields}
-use Rattle.packet.specs.Making.{Made, make_refusals, made-by, made}
+use Rattle.packet.specs.Making.{Made, make_refusals, made_by, made}
 
 -- Making's own refusals, which stand before those of the command.
 abbrev pub make_front : ℕ → List ℕ → ℕ → List (ℕ × Bool)
@@ -31,14 +31,14 @@ status-by : (b : Bool) (n : ℕ) (x y : Made) → eqb n 0 ≡ b → x.status ≡
 status-by true n x y e h i = h ∙ sym (eqb-true n 0 e)
 status-by false n x y e h i = i
 
-pub made-status : (n op o : ℕ) (d buffer : List ℕ) → (made-by n op o d buffer).status ≡ n
+pub made-status : (n op o : ℕ) (d buffer : List ℕ) → (made_by n op o d buffer).status ≡ n
 made-status n op o d buffer = status-by (eqb n 0) n _ _ refl refl refl
 
 -- And the place is that of the number: 0 has none.
-pub made_fault : (n op o : ℕ) (d buffer : List ℕ) → (made-by n op o d buffer).fault-place ≡ fault_place n op o d
+pub made_fault : (n op o : ℕ) (d buffer : List ℕ) → (made_by n op o d buffer).fault-place ≡ fault_place n op o d
 made_fault n op o d buffer = go (eqb n 0) refl
   where
-    go : (b : Bool) → eqb n 0 ≡ b → (made-by n op o d buffer).fault-place ≡ fault_place n op o d
+    go : (b : Bool) → eqb n 0 ≡ b → (made_by n op o d buffer).fault-place ≡ fault_place n op o d
     go true e = rw (eqb-true n 0 e)
     go false e = rw e
 
@@ -48,22 +48,22 @@ no_place op o d n f e z = e.1 ∙ rw (sym e.0 ∙ z)
 
 module _ (op options : ℕ) (d buffer : List ℕ) where
   pub made-by : (n : ℕ) → first (make_refusals op (options_in options) d (length buffer)) ≡ n
-      → made op options d buffer ≡ made-by n op (options_in options) d buffer
+      → made op options d buffer ≡ made_by n op (options_in options) d buffer
   unfolding made
-  made-by n e = ap (λ (n : ℕ). made-by n op (options_in options) d buffer) e
+  made-by n e = ap (λ (n : ℕ). made_by n op (options_in options) d buffer) e
 
-  pub made-small : length buffer < 512 → made op options d buffer ≡ made-by 1 op (options_in options) d buffer
+  pub made-small : length buffer < 512 → made op options d buffer ≡ made_by 1 op (options_in options) d buffer
   made-small h = made-by 1 (small (ltb 512 (fields (options_in options) + length d)) (judgement op (options_in options) d) (lt-ltb (length buffer) 512 h))
 
   module _ (room : 512 ≤ length buffer) where
-    pub made-large : 512 < fields (options_in options) + length d → made op options d buffer ≡ made-by 3 op (options_in options) d buffer
+    pub made-large : 512 < fields (options_in options) + length d → made op options d buffer ≡ made_by 3 op (options_in options) d buffer
     made-large h =
         made-by 3
         (large (judgement op (options_in options) d) (le-ltb (length buffer) 512 room) (lt-ltb 512 (fields (options_in options) + length d) h))
 
     module _ (fit : fields (options_in options) + length d ≤ 512) where
       pub made-judged : (n : ℕ) → first (judgement op (options_in options) d) ≡ n
-          → made op options d buffer ≡ made-by n op (options_in options) d buffer
+          → made op options d buffer ≡ made_by n op (options_in options) d buffer
       made-judged n e =
           made-by n
           (fits (judgement op (options_in options) d) (le-ltb (length buffer) 512 room) (le-ltb 512 (fields (options_in options) + length d) fit) ∙ e)
@@ -75,6 +75,6 @@ module _ (op options : ℕ) (d buffer : List ℕ) where
 
 -- A packet that nothing is refused of, from options that have no other bits.
 pub made-whole : (op o : ℕ) (d buffer : List ℕ) → options_in o ≡ o → 512 ≤ length buffer → fields o + length d ≤ 512 → first (judgement op o d) ≡ 0
-    → made op o d buffer ≡ made-by 0 op o d buffer
+    → made op o d buffer ≡ made_by 0 op o d buffer
 made-whole op o d buffer whole room fit none =
     rw whole at (made-judged op o d buffer room (rw whole fit) 0 (ap (λ (o : ℕ). first (judgement op o d)) whole ∙ none))

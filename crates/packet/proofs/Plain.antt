@@ -22,7 +22,7 @@ use Rattle.opcode.specs.Plain.{CommandRefuses, not_carried, lacks-length, wrong_
 use Rattle.opcode.proofs.Plain.{command-passed}
 use Rattle.packet.specs.Frame.{header_of, opcode_of, options_of, data_of, place, fields, announced}
 use Rattle.packet.specs.Reading.{Answer, frame_refusals, refusals, answered, reading}
-use Rattle.packet.specs.Making.{Made, packet_of, make_refusals, made-by, made}
+use Rattle.packet.specs.Making.{Made, packet_of, make_refusals, made_by, made}
 use Rattle.packet.specs.Plain.{Refuses, too_short, too_long, other_length, other-sum, elsewhere, command, ReadPlain}
 use Rattle.packet.specs.Plain.{MakeRefuses, no_room, MakePlain, AnnouncedPlain}
 use Rattle.packet.proofs.Frames.{reading-number, accepted}
@@ -123,8 +123,8 @@ module _ (p : List ℕ) where
 
 -- ---- Making.
 
-unmade : (op options : ℕ) (d buffer : List ℕ) (n : ℕ) (b : Bool) → eqb n 0 ≡ b → ((made-by n op options d buffer).status ≡ 0 → ⊥)
-    → ((made-by n op options d buffer).size ≡ 0) × ((made-by n op options d buffer).buffer ≡ buffer)
+unmade : (op options : ℕ) (d buffer : List ℕ) (n : ℕ) (b : Bool) → eqb n 0 ≡ b → ((made_by n op options d buffer).status ≡ 0 → ⊥)
+    → ((made_by n op options d buffer).size ≡ 0) × ((made_by n op options d buffer).buffer ≡ buffer)
 unmade op options d buffer n true e h = absurd (h (rw e))
 unmade op options d buffer n false e h = rw e (refl, refl)
 

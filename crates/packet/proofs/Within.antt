@@ -16,7 +16,7 @@ use Rattle.opcode.proofs.Faults.{Apart, tenth}
 use Rattle.wire.proofs.Tests.{first-silent, first-behind}
 use Rattle.packet.specs.Frame.{header_of, opcode_of, options_of, place, fields, data_size, data_of}
 use Rattle.packet.specs.Reading.{Answer, frame_refusals, refusals, fault_of, answered, reading}
-use Rattle.packet.specs.Making.{make_refusals, made-by, made}
+use Rattle.packet.specs.Making.{make_refusals, made_by, made}
 use Rattle.packet.proofs.Stores.{length-packet}
 use Rattle.packet.proofs.Makes.{make_front}
 
@@ -73,6 +73,6 @@ made-within op options d buffer =
     fit e = ltb-false _ _ (first-silent (make_refusals op (options_in options) d (length buffer)) (omega arith) e).1.0
 
     go : (n : ℕ) → (n ≡ 0 → fields (options_in options) + length d ≤ 512) → fault_place n op (options_in options) d < 512 → (b : Bool) → eqb n 0 ≡ b
-        → ((made-by n op (options_in options) d buffer).size ≤ 512) × ((made-by n op (options_in options) d buffer).fault-place < 512)
+        → ((made_by n op (options_in options) d buffer).size ≤ 512) × ((made_by n op (options_in options) d buffer).fault-place < 512)
     go n s f true e = rw (e, length-packet op (options_in options) d) (s (eqb-true n 0 e), omega arith)
     go n s f false e = rw e (omega arith, f)

@@ -33,8 +33,8 @@ pub record Made : Type 0 where
   pub buffer : List ℕ
 
 -- Rule 4.4: what is made leaves the buffer behind it; a refusal has length 0 and leaves the whole buffer.
-abbrev pub made-by : ℕ → ℕ → ℕ → List ℕ → List ℕ → Made
-made-by n op o d buffer =
+abbrev pub made_by : ℕ → ℕ → ℕ → List ℕ → List ℕ → Made
+made_by n op o d buffer =
     cond (eqb n 0)
     (record { status = 0; fault-place = 0; size = length (packet_of op o d); buffer = over (packet_of op o d) buffer })
     (record { status = n; fault-place = fault_place n op o d; size = 0; buffer = buffer })
@@ -42,4 +42,4 @@ made-by n op o d buffer =
 -- Rule 2.2: of the options only bits 3 to 7 are looked at.
 unfoldable pub made : ℕ → ℕ → List ℕ → List ℕ → Made
 made op options d buffer =
-    made-by (first (make_refusals op (options_in options) d (length buffer))) op (options_in options) d buffer
+    made_by (first (make_refusals op (options_in options) d (length buffer))) op (options_in options) d buffer
