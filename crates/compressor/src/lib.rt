@@ -13,7 +13,7 @@ ghost use Rattle.compressor.specs.Internal.{refusals_of};
 pub const PAIRS_ROOM: usize = 4032;
 
 // A status, the refusal's number or 0, and how many pairs were written, 0 if refused.
-#[derive(Drop)]
+#[derive(Clone, Copy)]
 pub struct Compressed {
     pub status: u8,
     pub pairs: usize,

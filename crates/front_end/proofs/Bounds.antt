@@ -292,6 +292,7 @@ points-read o d block h e past right =
   where
     points-size : {d : List ℕ} → ReadData 0x34 d → (length d ≡ 4) × (word_at d 2 ≤ 127)
     points-size (ReadData.points k l) = omega arith
+    points-size (ReadData.nothing n) = elim n [ ]
 
 -- As many gains as the count says, or the runs.
 sent-long : (d : List ℕ) → length d ≡ 6 + 2 * word_at d 2 → length (gains_sent d) ≡ gains_count false d
@@ -326,3 +327,4 @@ gains-read o d block h e past =
   where
     gains-size : {d : List ℕ} → ReadData 0x2B d → (length d ≡ 5) × ((1 ≤ byte_at d 0) × (byte_at d 0 ≤ 3)) × (word_at d 3 ≤ 254)
     gains-size (ReadData.gains k l m n) = omega arith
+    gains-size (ReadData.nothing n) = elim n [ ]

@@ -38,7 +38,6 @@ use Rattle.front_end.specs.Plain.{StateLent, LentRight, WithinTable}
 use Rattle.front_end.specs.Effects.{block_with, Leaves, Returns}
 use Rattle.front_end.specs.Mark.{written_marked}
 use Rattle.front_end.specs.Demands.{Accepted, Resets}
-use Rattle.front_end.proofs.Effects.{leaves, returns}
 use Rattle.front_end.proofs.Bounds.{placed-number}
 use Rattle.front_end.proofs.Steps.{decision-number, step-stopped, step-refused}
 

@@ -5,7 +5,6 @@ use mathlib.Core.List.{List, [], ◌∷◌}
 use native.Mathlib.Omega.{arith}
 use borrow.Author.Tests.{ne_eqb}
 use lib.ListN.{take, drop}
-use Rattle.wire.specs.Numbers.{byte_at}
 use Rattle.opcode.specs.Options.{is_read}
 use Rattle.packet.specs.Frame.{header_of, opcode_of, data_of}
 use Rattle.row_mark.specs.Bits.{bit_at}
@@ -14,7 +13,7 @@ use Rattle.front_end.specs.State.{State}
 use Rattle.front_end.specs.Mark.{written_marked}
 use Rattle.front_end.specs.Step.{Out, step}
 use Rattle.front_end.specs.Writes.{Writes, Applies}
-use Rattle.front_end.specs.Rows.{mark_of, RowRight, MarkRight, TouchedBy, RowsMarked}
+use Rattle.front_end.specs.Rows.{mark_of, RowRight, MarkRight, RowsMarked}
 use Rattle.front_end.specs.Calls.{Call, state_after_all}
 use Rattle.front_end.proofs.Demands.{decided}
 use Rattle.front_end.proofs.Steps.{step-written}

@@ -2,31 +2,28 @@
 -- states.
 use Prim.Native.Nat.{ℕ, ◌+◌, ◌*◌, ◌-◌, ◌≤◌, ◌<◌}
 use mathlib.Core.Path.{◌≡◌, refl, sym, ap, subst, ◌∙◌}
-use mathlib.Core.Bool.{Bool, true, false, cond, and-false}
+use mathlib.Core.Bool.{and-false}
 use mathlib.Core.List.{List, [], ◌∷◌}
 use native.Mathlib.Decide.{ℕ_discrete, dec_lt}
 use native.Mathlib.Omega.{arith}
 use borrow.Author.Tests.{eq-eqb, ne_eqb}
-use lib.ListN.{length, take, drop, get_or, length-take, length-drop}
-use lib.Seq.{paste, length-paste, get_or-take, ext_get_or}
-use lib.Dec.{eqb}
-use Rattle.wire.specs.First.{first}
+use lib.ListN.{length, take, drop, get_or, length-drop}
+use lib.Seq.{paste, get_or-take}
 use Rattle.wire.specs.Buffers.{over}
 use Rattle.wire.specs.Numbers.{byte_at}
-use Rattle.wire.proofs.Copies.{Same, part, front, same-part, paste-there, paste-apart, before-paste}
+use Rattle.wire.proofs.Copies.{Same, part, same-part, paste-there, paste-apart, before-paste}
 use Rattle.opcode.specs.Options.{options_in, is_read}
 use Rattle.opcode.specs.Commands.{command_of}
-use Rattle.opcode.specs.Judgement.{judgement}
 use Rattle.packet.specs.Frame.{header_of, opcode_of, data_of}
 use Rattle.packet.specs.Reading.{fault_of}
 use Rattle.packet.proofs.Exactly.{bytes-of-data}
-use Rattle.settings.specs.Layout.{block_size, staged_shape, shape_size, shape_head, enable, live_shape, smooth_table, settings_end, mark_place, mark_size}
-use Rattle.settings.specs.Layout.{mode_at, column_list, lists_size, place_of, returned}
+use Rattle.settings.specs.Layout.{block_size, staged_shape, shape_size, enable, live_shape, smooth_table, settings_end}
+use Rattle.settings.specs.Layout.{place_of, returned}
 use Rattle.settings.proofs.Same.{settings-same}
 use Rattle.front_end.specs.State.{State, stopped}
-use Rattle.front_end.specs.Commands.{read_gains, read_points, read_shape, read_smooth, block_back, data_back, block_after, written, runs_past}
+use Rattle.front_end.specs.Commands.{read_shape, read_smooth, block_back, data_back, block_after, written, runs_past}
 use Rattle.front_end.specs.Mark.{written_marked}
-use Rattle.front_end.specs.Step.{reads, number_of, reply_data, reply_to, state_after, Out, step}
+use Rattle.front_end.specs.Step.{reads, number_of, reply_data, reply_to, state_after, step}
 use Rattle.front_end.specs.Rows.{SameButMark, SameAnswer}
 use Rattle.front_end.proofs.Bounds.{counts}
 use Rattle.front_end.proofs.Reach.{Kind, kind_of, other-back}

@@ -94,7 +94,7 @@ fn gains_past(reads: bool, data: &[u8]) -> bool
 }
 
 // The points that a 34h command names: so many, from a start on.
-#[derive(Drop)]
+#[derive(Clone, Copy)]
 pub struct Points {
     pub start: usize,
     pub count: usize,
@@ -124,7 +124,7 @@ fn point_count(reads: bool, data: &[u8]) -> usize
 
 // The words that a 2Bh command names: so many, for a colour, from a start on; and where their gains stand in the table, for colour 0 in the
 // first of its three places.
-#[derive(Drop)]
+#[derive(Clone, Copy)]
 pub struct Gains {
     pub colour: usize,
     pub start: usize,
@@ -203,7 +203,7 @@ fn put_place(out: &mut [u8], number: usize, place: usize) -> usize
 }
 
 // Rule 3.4: why the packet was refused, number 0 where it was not, and the length of the reply, 0 where there is none.
-#[derive(Drop)]
+#[derive(Clone, Copy)]
 pub struct Outcome {
     pub why: Refusal,
     pub size: usize,

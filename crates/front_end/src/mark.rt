@@ -12,7 +12,7 @@ use settings::layout::*;
 
 // What a write does to the mark: whether it changes it at all; if so, the rows from the first up to the end, in a map of so many columns, are worked out and put
 // into the mark given here.
-#[derive(Drop)]
+#[derive(Clone, Copy)]
 pub struct Fresh {
     pub changes: bool,
     pub mark: u32,
@@ -87,7 +87,7 @@ pub fn put(block: &mut [u8], mark: u32)
 }
 
 // How many rows are marked and the lowest of them, 32 for none. The status is 0, or 1 for a wrong length, with no rows.
-#[derive(Drop)]
+#[derive(Clone, Copy)]
 pub struct RowCount {
     pub status: u8,
     pub count: u32,

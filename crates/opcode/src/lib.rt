@@ -13,7 +13,7 @@ pub use lists::{next_above, rise};
 pub use opcodes::row_at;
 
 // A field of a command's data: its bytes, and the numbers it takes, from low to high but for those from gap up to past.
-#[derive(Drop)]
+#[derive(Clone, Copy)]
 pub struct Field {
     pub size: usize,
     pub low: usize,
@@ -23,7 +23,7 @@ pub struct Field {
 }
 
 // What the table says of an opcode: its kind, and the data sizes of a write, of a read and of what a read returns, 0 where they vary.
-#[derive(Drop)]
+#[derive(Clone, Copy)]
 pub struct Row {
     pub kind: usize,
     pub write: usize,

@@ -1,6 +1,6 @@
 -- What reading and making promise plainly, from their equations; and what names mean, by unfolding
 -- them.
-use Prim.Native.Nat.{ℕ, ◌+◌, ◌-◌, ◌≤◌, ◌<◌}
+use Prim.Native.Nat.{ℕ, ◌+◌, ◌≤◌, ◌<◌}
 use mathlib.Core.Path.{◌≡◌, refl, sym, ap, ◌∙◌}
 use mathlib.Core.Logic.{◌⊎◌}
 use mathlib.Core.Bool.{Bool, true, false, not, ◌&&◌, true≢false}
@@ -20,7 +20,7 @@ use Rattle.opcode.proofs.Faults.{Located}
 use Rattle.opcode.proofs.Numbers.{CommandNumber}
 use Rattle.opcode.specs.Plain.{CommandRefuses, not_carried, lacks-length, wrong_size, out_of_range, merges}
 use Rattle.opcode.proofs.Plain.{command-passed}
-use Rattle.packet.specs.Frame.{header_of, opcode_of, options_of, data_of, place, fields, announced}
+use Rattle.packet.specs.Frame.{header_of, opcode_of, options_of, data_of, fields, announced}
 use Rattle.packet.specs.Reading.{Answer, frame_refusals, refusals, answered, reading}
 use Rattle.packet.specs.Making.{Made, packet_of, make_refusals, made_by, made}
 use Rattle.packet.specs.Plain.{Refuses, too_short, too_long, other_length, other-sum, elsewhere, command, ReadPlain}

@@ -18,7 +18,7 @@ use opcode::bits;
 use wire::{LONGEST, Refusal};
 
 // A command with its options (header bits 3 to 7 in place) and the place of its data; or why there is none.
-#[derive(Drop)]
+#[derive(Clone, Copy)]
 pub enum Reading {
     Command {
         opcode: u8,
@@ -47,12 +47,12 @@ impl Reading {
 }
 
 // A place in a packet. Each step hands back what it took and the moved place.
-#[derive(Drop)]
+#[derive(Clone, Copy)]
 struct Cursor {
     at: usize,
 }
 
-#[derive(Drop)]
+#[derive(Clone, Copy)]
 struct Step {
     value: usize,
     next: Cursor,
@@ -119,7 +119,7 @@ impl Cursor {
 }
 
 // What stands in a packet whose frame is sound and meant for us, or refusal 2 to 6.
-#[derive(Drop)]
+#[derive(Clone, Copy)]
 enum Frame {
     Sound {
         opcode: usize,
@@ -240,7 +240,7 @@ fn checksum_differs(packet: &[u8], header: usize) -> bool
 }
 
 // What making answers (rule 4.4): why it refused, number 0 where it did not, and the packet's size, 0 if refused.
-#[derive(Drop)]
+#[derive(Clone, Copy)]
 pub struct Made {
     pub why: Refusal,
     pub size: usize,

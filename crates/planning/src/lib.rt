@@ -27,7 +27,7 @@ pub const CHOICES_SIZE: usize = 1984;
 pub const BATCH_SIZE: usize = 8032;
 
 // A refusal's number or 0, how many packets the plan has, and how many bytes the batch.
-#[derive(Drop)]
+#[derive(Clone, Copy)]
 pub struct Answer {
     pub status: u8,
     pub packets: usize,
@@ -35,7 +35,7 @@ pub struct Answer {
 }
 
 // How long the lists are that planning is lent, or asks for.
-#[derive(Drop)]
+#[derive(Clone, Copy)]
 pub struct Lengths {
     pub held: usize,
     pub wanted: usize,
@@ -84,7 +84,7 @@ fn lesser(a: u32, b: u32) -> u32
 
 // What is known at a point of those behind it: the least bytes, and how many points an open packet must be able to take for 2, for 4 and for 6
 // bytes fewer; MOST_COUNT if it never can.
-#[derive(Drop)]
+#[derive(Clone, Copy)]
 pub struct CostBehind {
     pub least: u32,
     pub two: u32,

@@ -1,6 +1,6 @@
 -- The promise of a window leaves one outcome; and, rules 9.2 to 9.4, the plain promise one text and
 -- one end state for a file.
-use Prim.Native.Nat.{ℕ, ◌+◌, ◌<◌}
+use Prim.Native.Nat.{ℕ}
 use mathlib.Core.Path.{◌≡◌, refl, sym, ap, subst, ◌∙◌}
 use mathlib.Core.List.{List, [], ◌∷◌, ◌++◌}
 use mathlib.Core.Bool.{Bool, true, false}

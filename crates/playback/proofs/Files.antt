@@ -57,7 +57,7 @@ record So (first : State) (bytes text : List ℕ) (p : Progress) (kept : List �
   printed : lines 0 (file_run bytes).whole first ≡ text
   formed : Formed 0 text p.number
 
-so_far : {kept bytes text : List ℕ} {p : Progress} {kept' : List ℕ} {s first : State} → Called (progress 0 0 0 0 0) kept first bytes text p kept' s
+so_far : {kept : List ℕ} {first : State} {bytes text : List ℕ} {p : Progress} {kept' : List ℕ} {s : State} → Called (progress 0 0 0 0 0) kept first bytes text p kept' s
     → So first bytes text p kept' s
 unfolding file_run lines taken
 so_far {kept} {first = first} Called.none = record { stands = begins kept first; printed = refl; formed = Formed.none }

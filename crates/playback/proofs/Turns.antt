@@ -24,7 +24,7 @@ use Rattle.session_file.specs.Windows.{most_record, part, found, next_taken, Fol
 use Rattle.session_file.proofs.Runs.{taken-append}
 use Rattle.playback.specs.declared.Progress.{Progress}
 use Rattle.playback.specs.Replay.{reply_buffer, line, line_of, lines, state_after_records, Formed}
-use Rattle.playback.specs.Windows.{line_room, most_records, progress, begun, ReplayStands, Followed, Replayed, Full, has_room, RoomsEnough, rooms_right}
+use Rattle.playback.specs.Windows.{line_room, most_records, progress, begun, ReplayStands, Replayed, Full, has_room, RoomsEnough, rooms_right}
 use Rattle.playback.specs.Windows.{WindowReplayed, Carries, Answered, Turned, Going, going, read_on, answer_of, turn_by, turn_of, WindowTurns, stops, goes}
 use Rattle.playback.proofs.Lines.{state-snoc, lines_snoc, front-line, front-state, line-formed, formed-append, puts-behind}
 

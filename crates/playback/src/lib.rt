@@ -23,7 +23,7 @@ const MOST_RECORDS: u64 = u64::MAX;
 
 // How far a replay has come: in the window and in the output, in the preamble, in records, and in the
 // bytes of the record under way.
-#[derive(Drop)]
+#[derive(Clone, Copy)]
 pub struct Progress {
     pub at: usize,
     pub size: usize,

@@ -51,7 +51,7 @@ fn main() {
 }
 
 // What goes from window to window: where the replay stands, and how it goes on.
-#[derive(Drop)]
+#[derive(Clone, Copy)]
 struct BetweenReads {
     matched: usize,
     number: u64,

@@ -1,5 +1,5 @@
 -- What a reply is.
-use Rattle.std.specs.Prelude.{ℕ, Bool, List, [], ◌∷◌, ◌++◌, length}
+use Rattle.std.specs.Prelude.{ℕ, Bool, List, ◌∷◌, ◌++◌, length}
 use Rattle.wire.specs.Numbers.{word_bytes}
 use Rattle.wire.specs.Checksum.{sealed}
 

@@ -10,7 +10,7 @@ ghost use Rattle.reply.specs.Reading.{ReplyRead, «checksum_size», «checksum_w
 use wire::LONGEST;
 
 // What a reply says: its status, and the place and the size of its data; or the number of why it is none, which names no place.
-#[derive(Drop)]
+#[derive(Clone, Copy)]
 pub enum ReplyReading {
     Reply { status: u8, at: usize, size: usize },
     Refused(u8),

@@ -9,9 +9,8 @@ use native.Mathlib.Omega.{arith}
 use borrow.Author.Tests.{lt-ltb, le-ltb, eq-eqb, ne_eqb}
 use lib.ListN.{length, get_or}
 use lib.Dec.{eqb}
-use Rattle.wire.specs.First.{first}
 use Rattle.wire.proofs.Copies.{Same, front, part}
-use Rattle.opcode.specs.Fields.{fault, words_at, rise}
+use Rattle.opcode.specs.Fields.{words_at, rise}
 use Rattle.opcode.specs.Commands.{command_of}
 use Rattle.opcode.specs.Judgement.{judgement, size_wrong, control_size_wrong, value_fault, control_fault, lists_fault}
 use Rattle.opcode.specs.Allowed.{Allowed}

@@ -1,5 +1,5 @@
 -- Rule 11.1: the mark is a number of 32 bits; its bits as a list, the lowest first.
-use Rattle.std.specs.Prelude.{ℕ, zero, suc, ◌+◌, ◌*◌, ◌/◌, ◌%◌, ◌^◌, Bool, true, false, cond, List, [], ◌∷◌, eqb}
+use Rattle.std.specs.Prelude.{ℕ, zero, suc, ◌+◌, ◌*◌, ◌/◌, ◌%◌, ◌^◌, Bool, cond, List, [], ◌∷◌, eqb}
 
 -- So many low bits of a number.
 unfoldable pub bits_of : ℕ → ℕ → List Bool

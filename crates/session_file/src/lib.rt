@@ -32,7 +32,7 @@ pub const IN_KEPT: usize = 2;
 
 // What a step took: where it stopped in the window, how much there is of the preamble and of the record under way, and the packet of a record that
 // has become whole, from start to end.
-#[derive(Drop)]
+#[derive(Clone, Copy)]
 pub struct Taken {
     pub at: usize,
     pub matched: usize,

@@ -34,7 +34,8 @@ long_same h l = rw (word_same h (omega arith), word_same (part h 2 2 (omega arit
 pub words_same : {a b : List ℕ} {i j : ℕ} (n : ℕ) → Same a i b j (2 * n) → words_at a i n ≡ words_at b j n
 unfolding words_at
 words_same zero h = refl
-words_same (suc n) h = rw (word_same h (omega arith), words_same n (part h 2 (2 * n) (omega arith)))
+words_same {i = i} {j = j} (suc n) h =
+    rw (word_same h (omega arith), words_same {i = i + 2} {j = j + 2} n (part h 2 (2 * n) (omega arith)))
 
 -- A field of one, two or four bytes reads no others.
 abbrev pub wide : ℕ → Bool
@@ -66,10 +67,10 @@ number_same n t h =
 pub right-same : {a b : List ℕ} {i j : ℕ} (fs : List Field) → widths fs ≡ true → Same a i b j (span fs) → right fs a i ≡ right fs b j
 unfolding widths right
 right-same [] t h = refl
-right-same (f ∷ fs) t h =
+right-same {i = i} {j = j} (f ∷ fs) t h =
     rw (
       number_same f.size (and_left (wide f.size) (widths fs) t) (front h f.size (omega arith)),
-      right-same fs (and_right (wide f.size) (widths fs) t) (part h f.size (span fs) (omega arith)),
+      right-same {i = i + f.size} {j = j + f.size} fs (and_right (wide f.size) (widths fs) t) (part h f.size (span fs) (omega arith)),
     )
 
 pub shape_same : {a b : List ℕ} {i j : ℕ} → Same a i b j shape_size → shape_right a i ≡ shape_right b j

@@ -16,7 +16,7 @@ pub const PACKET_WORDS: usize = 250;
 pub const BATCH_ROOM: usize = 8234;
 
 // A refusal's number or 0, how many packets there are, and how many bytes they have.
-#[derive(Drop)]
+#[derive(Clone, Copy)]
 pub struct Split {
     pub status: u8,
     pub packets: usize,

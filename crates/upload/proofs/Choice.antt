@@ -95,11 +95,21 @@ module _ (n : ℕ) (w : List ℕ) (wide : length w ≡ 2 * n) where
       ]
 
 -- The order is one way only.
-less-asym : {a b : List ℕ} → Less a b → Less b a → ⊥
-less-asym (here h) (here g) = omega arith
-less-asym (here h) (later g) = omega arith
-less-asym (later h) (here g) = omega arith
-less-asym (later h) (later g) = less-asym h g
+no-less : {a : List ℕ} → Less a [] → ⊥
+no-less h = elim h [ ]
+
+less-heads : {x y : ℕ} {a b : List ℕ} → Less (x ∷ a) (y ∷ b) → (x < y) ⊎ ((x ≡ y) × Less a b)
+less-heads (here h) = inl h
+less-heads (later h) = inr (refl, h)
+
+less-asym : (a b : List ℕ) → Less a b → Less b a → ⊥
+less-asym [] b h g = no-less g
+less-asym (x ∷ a) [] h g = no-less h
+less-asym (x ∷ a) (y ∷ b) h g =
+    elim (less-heads h) [
+      | inl l ↦ elim (less-heads g) [ inl m ↦ omega arith | inr m ↦ omega (arith, m.0) ]
+      | inr l ↦ elim (less-heads g) [ inl m ↦ omega (arith, l.0) | inr m ↦ less-asym a b l.1 m.1 ]
+    ]
 
 module _ (n : ℕ) (held wanted : List ℕ) (h : MapOf n held) (w : MapOf n wanted) where
   pub uploads-cover : {ps : List Part} → Uploads n held wanted ps → Covers 0 0 (differs held wanted) ps
@@ -132,7 +142,7 @@ module _ (n : ℕ) (held wanted : List ℕ) (h : MapOf n held) (w : MapOf n want
     where
       go : First (plan_of held wanted) ps → ps ≡ plan_of held wanted
       go (inl g) = sym g
-      go (inr l) = let l' = rw f at l in absurd (less-asym l' l')
+      go (inr l) = let l' = rw f at l in absurd (less-asym _ _ l' l')
 
   pub chosen-only : (ps : List Part) → Chosen n held wanted ps → ps ≡ plan_of held wanted
   chosen-only ps c = go (plan-first ps c.uploads low) (c.earliest (plan_of held wanted) plan-chosen.uploads same)
@@ -147,4 +157,4 @@ module _ (n : ℕ) (held wanted : List ℕ) (h : MapOf n held) (w : MapOf n want
           → ps ≡ plan_of held wanted
       go (inl e) g = sym e
       go (inr l) (inl f) = counts-only ps c.uploads low f
-      go (inr l) (inr g) = absurd (less-asym l g)
+      go (inr l) (inr g) = absurd (less-asym _ _ l g)

@@ -45,7 +45,7 @@ module _ (cs : List ℕ) (i : ℕ) (inside : i < length cs) where
 -- A part of a list in order fits.
 part-fits : {n i : ℕ} (ps : List Part) (p : Part) (qs : List Part) → InOrder n i (ps ++ (p ∷ qs)) → Fits n p
 part-fits [] p qs (next l f r) = f
-part-fits (q ∷ ps) p qs (next l f r) = part-fits ps p qs r
+part-fits (q ∷ ps) p qs (next l f r) = part-fits {i = q.start + q.count} ps p qs r
 
 -- One part more.
 numbers-next : (ps : List Part) (p : Part) → plan_numbers (ps ++ (p ∷ [])) ≡ plan_numbers ps ++ (p.start ∷ p.count ∷ [])

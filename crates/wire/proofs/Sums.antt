@@ -36,7 +36,7 @@ low : (width : ℕ) → LowKept width → (first second : ℕ) (s : List ℕ)
     → second_sum width first second s % 256 ≡ (second + length s * first + weighted s) % 256
 low width kept first second [] = omega arith
 low width kept first second (x ∷ r) =
-    low width kept _ _ r ∙ low_turn first second x (length r) (weighted r) _ _ (kept (first + x)) (kept (second + (first + x) % width))
+    low width kept ((first + x) % width) ((second + (first + x) % width) % width) r ∙ low_turn first second x (length r) (weighted r) _ _ (kept (first + x)) (kept (second + (first + x) % width))
 
 -- Sums kept below 256 are low bytes.
 below : (first second : ℕ) (s : List ℕ) → second < 256 → second_sum 256 first second s < 256

@@ -9,7 +9,7 @@ ghost use Rattle.wire.specs.Checksum.{«checksum», ChecksumAgrees};
 
 // Why a packet was refused: the number of rule 4.1, 0 where it was not; and on refusal 10 the place of the fault (rule 4.6), its offset in the
 // data, else 0.
-#[derive(Drop)]
+#[derive(Clone, Copy)]
 pub struct Refusal {
     pub number: u8,
     pub place: usize,

@@ -1,0 +1,15 @@
+-- The language's counts of the mark's bits.
+use borrow.Author.Tests.{eq-eqb, ne_eqb}
+use Rattle.front_end.specs.Mark.{rows_told}
+use Rattle.front_end.proofs.Fresh.{mark-small, rows-promised}
+use Rattle.front_end.proofs.mark.rows.Goals as goal
+
+pub returns-then-block-ne-BLOCK_SIZE : goal.returns-then-block-ne-BLOCK_SIZE
+unfolding rows_told
+returns-then-block-ne-BLOCK_SIZE c = rows-promised c.args.block.now (mark-small c.args.block.now (λ k. (c.type_inv.block k).fits)) _ _ _ (rw (ne_eqb _ _ c.if-block-ne-BLOCK_SIZE.true))
+
+pub returns : goal.returns
+unfolding rows_told
+returns c = let block = c.args.block.now in
+    rows-promised block (mark-small block (λ k. (c.type_inv.block k).fits)) _ _ _
+    (rw (eq-eqb _ _ c.if-block-ne-BLOCK_SIZE.false, c.lowest.ensures, c.count.ensures, c.read-mark.ensures))

@@ -1,0 +1,12 @@
+-- A row a turn: its bit, and no other.
+use Prim.Native.Nat.{◌-◌}
+use Rattle.row_mark.specs.Bits.{bits_of}
+use Rattle.row_mark.specs.Rows.{row_differs}
+use Rattle.row_mark.proofs.Rows.{Refreshing}
+use Rattle.row_mark.proofs.numbers.refresh.Given as goal
+
+abbrev pub invariant-loop-row : goal.invariant-loop-row
+invariant-loop-row l = Refreshing (row_differs l.columns l.staged l.live) l.first l.end (bits_of 32 l.mark) l.row (bits_of 32 l.fresh)
+
+abbrev pub decreases-loop-row : goal.decreases-loop-row
+decreases-loop-row l = l.end - l.row

@@ -1,0 +1,17 @@
+-- What is left to write makes the goal: a pair fills its run and moves the place, and at the end nothing is left.
+use Prim.Native.Nat.{◌+◌, ◌*◌, ◌-◌, ◌≤◌}
+use mathlib.Core.Path.{◌≡◌}
+use lib.ListN.{length, drop}
+use lib.Seq.{sets}
+use Rattle.wire.specs.Tables.{words, bytes}
+use Rattle.gain_words.specs.Pairs.{expand, sum_runs}
+use Rattle.tables.proofs.runs_in_bytes.Given as goal
+
+abbrev pub invariant-loop-i : goal.invariant-loop-i
+invariant-loop-i l = (sets l.table (2 * l.place) (bytes (expand (drop l.i (words (drop l.from l.src))))) ≡ sets l.initial.table (2 * l.at) (bytes (expand (words (drop l.from l.src)))))
+    × (2 * (l.place + sum_runs (drop l.i (words (drop l.from l.src)))) ≤ length l.initial.table)
+    × (length l.table ≡ length l.initial.table)
+    × (2 * l.i ≤ length l.src)
+
+abbrev pub decreases-loop-i : goal.decreases-loop-i
+decreases-loop-i l = length l.src - 2 * l.i

@@ -1,0 +1,11 @@
+-- The loop keeps what the law on copying says: the first k bytes stand in their place.
+use Prim.Native.Nat.{◌-◌}
+use lib.ListN.{drop}
+use Rattle.wire.proofs.Laws.{Copying}
+use Rattle.wire.proofs.copy.Given as goal
+
+abbrev pub invariant-loop-k : goal.invariant-loop-k
+invariant-loop-k l = Copying l.initial.dst l.at (drop l.from l.src) l.n l.dst l.k
+
+abbrev pub decreases-loop-k : goal.decreases-loop-k
+decreases-loop-k l = l.n - l.k
