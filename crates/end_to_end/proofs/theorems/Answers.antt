@@ -16,13 +16,11 @@ use Rattle.end_to_end.proofs.Sent.{delivered}
 use Rattle.end_to_end.proofs.Pairs.{gains-delivered, compressed-splittable}
 use Rattle.end_to_end.proofs.Chains.{same, wrong-length, from-reset, live-kept as live-kept-bytes, mark-stays, mark-from-reset}
 use Rattle.end_to_end.proofs.Uploads.{delivered-bytes, gains-bytes, compressed-bytes}
-use Rattle.end_to_end.proofs.theorems.Statement.{statement}
-use Rattle.end_to_end.proofs.theorems.Tie as tie
+use Rattle.end_to_end.proofs.theorems.Goals as goal
 
-returns : tie.Need-returns
+pub returns : goal.returns
 unfolding checksum
-returns c =
-    record {
+returns c = record {
       live-kept = live-kept;
       mark-stays = always-right;
       mark-from-reset = λ xs. always-right xs reset_state mark-reset;
@@ -50,6 +48,3 @@ returns c =
       examples = examples;
       sum-worked = refl;
     }
-
-pub theorems-spec : {M : Type 1} → statement M
-theorems-spec = tie.close (tie.spec returns)
