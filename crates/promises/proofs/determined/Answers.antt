@@ -17,8 +17,7 @@ use Rattle.splitter.proofs.Determined.{«determined-numbers» as split-numbers, 
 use Rattle.vermolgas.proofs.Determined.{read-c, make-c, reply-c, step-c, reset-c, rows-c, compress-c, split-c, plan-c}
 use Rattle.promises.specs.Determined.{Named, OnNumbers, OnBytes, ForC}
 use Rattle.promises.specs.Promised.{Promised}
-use Rattle.promises.proofs.determined.Statement.{statement}
-use Rattle.promises.proofs.determined.Tie as tie
+use Rattle.promises.proofs.determined.Goals as goal
 
 named : Named
 named =
@@ -112,8 +111,5 @@ for-c =
       plan = plan-c;
     }
 
-returns : tie.Need-returns
+pub returns : goal.returns
 returns c = (named, promised, on-numbers, on-bytes, for-c)
-
-pub determined-spec : {M : Type 1} → statement M
-determined-spec = tie.close (tie.spec returns)
