@@ -5,7 +5,6 @@ use mathlib.Core.Path.{◌≡◌, refl, sym, ap, subst, ◌∙◌}
 use mathlib.Core.List.{List, ◌∷◌, map}
 use native.Mathlib.Omega.{arith}
 use lib.ListN.{length, take, drop, get_or}
-use lib.Seq.{paste}
 use lib.Dec.{lit<}
 use Rattle.wire.specs.Tables.{words, bytes}
 use Rattle.wire.specs.Plain.{Bytes}

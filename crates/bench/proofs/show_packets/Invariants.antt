@@ -1,6 +1,5 @@
 -- Each packet announces two bytes or more, so the walk ends; it stays within the batch by its own test.
 use Prim.Native.Nat.{◌-◌}
-use borrow.Author.Rules.{rules}
 use Rattle.bench.proofs.show_packets.Given as goal
 
 abbrev pub invariant-loop-at : goal.invariant-loop-at

@@ -1,6 +1,5 @@
 -- Five places of each list.
 use Prim.Native.Nat.{◌-◌, ◌≤◌}
-use borrow.Author.Rules.{rules}
 use Rattle.bench.proofs.show_rooms.Given as goal
 
 abbrev pub invariant-loop-k : goal.invariant-loop-k

@@ -1,7 +1,6 @@
 -- Status and pairs are packed side by side, and there are few pairs, so each is what its bits say.
 use mathlib.Core.Path.{refl, ap}
 use native.Mathlib.Omega.{arith}
-use borrow.Author.Rules.{rules}
 use Rattle.vermolgas.specs.Packed.{packed_compress}
 use Rattle.vermolgas.proofs.vermolgas_compress.Goals as goal
 

@@ -2,7 +2,6 @@
 use Prim.Native.Nat.{◌≤◌, ◌<◌}
 use mathlib.Core.Path.{subst, sym}
 use native.Mathlib.Omega.{arith}
-use borrow.Author.Rules.{rules}
 use Rattle.packet.specs.Making.{Made}
 use Rattle.packet.proofs.Within.{made-within}
 use Rattle.vermolgas.proofs.Packs.{make-packed}

@@ -2,7 +2,6 @@
 use Prim.Native.Nat.{◌≤◌, ◌<◌}
 use mathlib.Core.Path.{subst, sym}
 use native.Mathlib.Omega.{arith}
-use borrow.Author.Rules.{rules}
 use Rattle.front_end_bytes.specs.Bytes.{LentOut, lent}
 use Rattle.vermolgas.proofs.Packs.{out-packed}
 use Rattle.vermolgas.proofs.Small.{step-bytes-small}

@@ -2,7 +2,6 @@
 use Prim.Native.Nat.{◌≤◌}
 use mathlib.Core.Path.{refl, ap}
 use native.Mathlib.Omega.{arith}
-use borrow.Author.Rules.{rules}
 use Rattle.upload.proofs.Small.{answer-small}
 use Rattle.vermolgas.specs.Packed.{packed_plan}
 use Rattle.vermolgas.proofs.vermolgas_plan.Goals.{After-struct_known-1}

@@ -3,7 +3,6 @@ use Prim.Native.Nat.{ℕ, ◌≤◌, ◌<◌}
 use mathlib.Core.List.{List}
 use mathlib.Core.Path.{◌≡◌, sym, ap, ◌∙◌, subst}
 use native.Mathlib.Omega.{arith}
-use borrow.Author.Rules.{rules}
 use Rattle.packet.specs.Reading.{command_at, Answer, reading}
 use Rattle.packet.proofs.Within.{Within, reading-within}
 use Rattle.vermolgas.proofs.Packs.{read-packed}

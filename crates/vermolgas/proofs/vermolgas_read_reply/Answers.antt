@@ -1,11 +1,9 @@
 -- Status and size are packed side by side, and neither is large; a refusal has nothing beside its number.
 use Prim.Native.Nat.{ℕ, ◌≤◌}
 use mathlib.Core.List.{List}
-use mathlib.Core.Path.{◌≡◌, refl, sym, subst}
-use mathlib.Core.Bool.{Bool, not}
+use mathlib.Core.Path.{◌≡◌, sym, subst}
+use mathlib.Core.Bool.{Bool}
 use native.Mathlib.Omega.{arith}
-use lib.Dec.{eqb}
-use borrow.Author.Rules.{rules}
 use Rattle.reply.specs.Answer.{ReplyAnswer}
 use Rattle.reply.specs.Reading.{reply_reading}
 use Rattle.reply.proofs.Within.{reply-within}

@@ -1,7 +1,6 @@
 -- Status, count and lowest row are packed side by side, and each is what its bits say.
 use mathlib.Core.Path.{refl}
 use Rattle.vermolgas.proofs.Packs.{rows-packed}
-use borrow.Author.Rules.{rules}
 use Rattle.vermolgas.proofs.vermolgas_rows.Goals as goal
 
 pub returns : goal.returns

@@ -1,7 +1,6 @@
 -- Status, packets and bytes are packed side by side, and none of them is large, so each is what its bits say.
 use mathlib.Core.Path.{refl, ap}
 use native.Mathlib.Omega.{arith}
-use borrow.Author.Rules.{rules}
 use Rattle.vermolgas.specs.Packed.{packed_split}
 use Rattle.vermolgas.proofs.vermolgas_split.Goals as goal
 
