@@ -1,7 +1,7 @@
 #!/usr/bin/env python3
 """Brings this repository's own names to the spelling of the Rattle that it is proved with.
 
-Run once at the top, after the kit's port.py. Definitions and lemmas that were in camel case are in snake case; a dash that
+Run at the top, after the kit's port.py; a second run changes nothing. Definitions and lemmas that were in camel case are in snake case; a dash that
 joins two lemmas' names stays, and so do the names of types. A clause that cites a definition with the name of a function of its file has it in
 guillemets. Names that would fall together get others, listed in APART. Must-fail edits and pages follow. Each root file gets the line that has the
 check try its tactics.
@@ -26,7 +26,7 @@ DECLARED = re.compile(r"^ *(?:(?:abbrev|opaque|unfoldable|pub|data|record)\s+)*(
 
 
 def snake(name):
-    return re.sub(r"(?<=[a-z])([A-Z])", lambda m: "_" + m[1].lower(), name)
+    return re.sub(r"(?<=[a-z])[A-Z]+", lambda m: "".join("_" + c.lower() for c in m[0]), name)
 
 
 def names():
@@ -41,6 +41,8 @@ def names():
 
 def main():
     table = names()
+    if not table:
+        return
     for where in ["crates/*/specs/**/*.antt", "crates/*/proofs/**/*.antt", "crates/*/src/*.rt", "crates/*/must-fail/*.edit", "docs/*.md", "README.md"]:
         for f in sorted(glob.glob(where, recursive=True)):
             text = open(f, encoding="utf-8").read()

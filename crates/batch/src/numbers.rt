@@ -27,6 +27,29 @@ fn words<'a, 'b>(batch: Batch<'a>, list: &'b [u16], from: usize, n: usize) -> Ba
     }
 }
 
+// A batch on the buffer, with one 34h packet behind what is filled: start and points of the map.
+fn packet<'a, 'b>(
+    buffer: &'a mut [u8],
+    filled: usize,
+    wanted: &'b [u16],
+    start: usize,
+    count: usize,
+) -> Batch<'a>
+    requires { PacketFits 2 buffer.old filled wanted.now start count }
+    ensures same_reference { result.buffer.ghost_name ≡ buffer.entry.ghost_name }
+    ensures put { PacketPut buffer.old filled wanted.now start count result.filled result.buffer.now }
+{
+    let size = 2 + 4 * count;
+    let from = 2 * start;
+    let n = 2 * count;
+    words(
+        crate::word(crate::head(crate::open(buffer, filled), 0x34, size), start),
+        wanted,
+        from,
+        n,
+    )
+}
+
 // One 34h packet behind what is filled, start and points of the map: how much is filled then.
 pub fn put_packet(
     buffer: &mut [u8],
@@ -38,16 +61,39 @@ pub fn put_packet(
     requires { PacketFits 2 buffer.old filled wanted.now start count }
     ensures { PacketPut buffer.old filled wanted.now start count result buffer.new }
 {
-    let size = 2 + 4 * count;
-    let from = 2 * start;
-    let n = 2 * count;
-    let batch = words(
-        crate::word(crate::head(crate::open(buffer, filled), 0x34, size), start),
-        wanted,
+    let batch = packet(buffer, filled, wanted, start, count);
+    batch.filled
+}
+
+// A batch on the buffer, with one 2Bh packet of compressed gains behind what is filled: n words of the pairs from a place on.
+fn packet_of_pairs<'a, 'b>(
+    buffer: &'a mut [u8],
+    filled: usize,
+    pairs: &'b [u16],
+    from: usize,
+    n: usize,
+    colour: usize,
+    start: usize,
+) -> Batch<'a>
+    requires { PairsFit 1 buffer.old filled pairs.now from n colour start }
+    ensures same_reference { result.buffer.ghost_name ≡ buffer.entry.ghost_name }
+    ensures put { PairsPut buffer.old filled pairs.now from n colour start result.filled result.buffer.now }
+{
+    let size = 6 + 2 * n;
+    // Flag 1 and the colour.
+    let kind = 1 + 256 * colour;
+    words(
+        crate::word(
+            crate::word(
+                crate::word(crate::head(crate::open(buffer, filled), 0x2B, size), kind),
+                n,
+            ),
+            start,
+        ),
+        pairs,
         from,
         n,
-    );
-    batch.filled
+    )
 }
 
 // One 2Bh packet of compressed gains behind what is filled, n words of the pairs from a place on: how much is filled then.
@@ -63,20 +109,6 @@ pub fn put_pairs(
     requires { PairsFit 1 buffer.old filled pairs.now from n colour start }
     ensures { PairsPut buffer.old filled pairs.now from n colour start result buffer.new }
 {
-    let size = 6 + 2 * n;
-    // Flag 1 and the colour.
-    let kind = 1 + 256 * colour;
-    let batch = words(
-        crate::word(
-            crate::word(
-                crate::word(crate::head(crate::open(buffer, filled), 0x2B, size), kind),
-                n,
-            ),
-            start,
-        ),
-        pairs,
-        from,
-        n,
-    );
+    let batch = packet_of_pairs(buffer, filled, pairs, from, n, colour, start);
     batch.filled
 }

@@ -33,7 +33,9 @@ lead-pairs gain (next ∷ rest) = go (eqb gain next) refl (lead-pairs next rest)
         → compressed (next ∷ rest) ≡ suc (lead next rest) ∷ next ∷ compressed (drop (lead next rest) rest)
         → push gain (compressed (next ∷ rest))
         ≡ suc (lead gain (next ∷ rest)) ∷ gain ∷ compressed (drop (lead gain (next ∷ rest)) (next ∷ rest))
-    go true e behind = rw (behind, e, eqb-true gain next e)
+    go true e behind =
+        rw (behind, e)
+        (ap (λ g. suc (suc (lead g rest)) ∷ g ∷ compressed (drop (lead g rest) rest)) (sym (eqb-true gain next e)))
     go false e behind = rw (behind, e) (rw behind)
 
 pub lead-within : (gain : ℕ) (gains : List ℕ) → lead gain gains ≤ length gains

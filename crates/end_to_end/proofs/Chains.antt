@@ -8,7 +8,7 @@ use Rattle.wire.specs.Tables.{bytes}
 use Rattle.wire.specs.Plain.{Bytes}
 use Rattle.tables.proofs.Bytes.{words-bytes}
 use Rattle.front_end.specs.State.{State, reset_state}
-use Rattle.front_end.specs.Step.{Out, out, step}
+use Rattle.front_end.specs.Step.{out, step}
 use Rattle.front_end.specs.Writes.{Applies}
 use Rattle.front_end.specs.Rows.{MarkRight}
 use Rattle.front_end.specs.Plain.{StateLent, LentRight}

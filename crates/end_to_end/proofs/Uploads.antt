@@ -5,7 +5,6 @@ use mathlib.Core.Path.{◌≡◌, refl, sym, ap, subst, ◌∙◌}
 use mathlib.Core.List.{List, ◌∷◌, map}
 use native.Mathlib.Omega.{arith}
 use lib.ListN.{length, take, drop, get_or}
-use lib.Seq.{paste}
 use lib.Dec.{lit<}
 use Rattle.wire.specs.Tables.{words, bytes}
 use Rattle.wire.specs.Plain.{Bytes}
@@ -133,7 +132,7 @@ cut-packets {colour} (CutUp.more {start} ws rest {ps} full some cut) reply right
 with-bytes : (s : State) (at at₂ : ℕ) (new : List ℕ) → at₂ ≡ 2 * at → gain_bytes_with (lent_of s) at₂ (bytes new) ≡ lent_of (gains_with s at new)
 with-bytes s at at₂ new e = rw (e, length-halves 256 new, halves-paste)
 
-blended-bytes : {s t : State} {start colour : ℕ} {new : List ℕ} → Blended s start new colour t → BlendedBytes (lent_of s) start (bytes new) colour (lent_of t)
+blended-bytes : {s : State} {start : ℕ} {new : List ℕ} {colour : ℕ} {t : State} → Blended s start new colour t → BlendedBytes (lent_of s) start (bytes new) colour (lent_of t)
 blended-bytes {s} {start = start} {new = new} Blended.red =
     subst (BlendedBytes (lent_of s) start (bytes new) 1) (with-bytes s start (2 * start) new refl) BlendedBytes.red
 blended-bytes {s} {start = start} {new = new} Blended.green =

@@ -1,29 +1,17 @@
 -- The loop over a window: it ends, and carries what it took of it.
-use Prim.Native.Nat.{ℕ, zero, suc, ◌+◌, ◌-◌, ◌≤◌, ◌<◌}
+use Prim.Native.Nat.{ℕ, ◌+◌, ◌-◌, ◌≤◌, ◌<◌}
 use mathlib.Core.Path.{◌≡◌, refl, sym, ap, subst, ◌∙◌}
 use mathlib.Core.Logic.{◌⊎◌, inl, inr}
-use mathlib.Core.List.{List, [], ◌++◌}
+use mathlib.Core.List.{List, ◌++◌}
 use native.Mathlib.Decide.{ℕ_discrete}
 use native.Mathlib.Omega.{arith}
 use lib.ListN.{length, take, drop, length-take, length-drop}
-use lib.Seq.{take-add, take-take, take_all}
+use lib.Seq.{take-add, take-take}
 use Rattle.front_end.specs.State.{State}
 use Rattle.playback.specs.declared.Progress.{Progress}
-use Rattle.playback.specs.Windows.{WindowReplayed, Carries}
-use Rattle.playback.proofs.Turns.{carry-none, carry-on, carry-as, carry-window}
-use Rattle.replay.specs.Played.{PlayedSome, Played}
-
--- ---- As much as fills the output.
-
-pub some_written : {window : List ℕ} {from : Progress} {kept : List ℕ} {s : State} {reply out : List ℕ} {p : Progress} {kept' : List ℕ} {s' : State}
-    {reply' out' : List ℕ} → WindowReplayed window from kept s reply out p kept' s' reply' out' → PlayedSome window from kept s p kept' s'
-some_written w = record { inside = w.inside; carried = λ some. carry-window w }
-
-pub some-unwritten : {window : List ℕ} {from : Progress} {kept : List ℕ} {s : State} {p : Progress} {kept' : List ℕ} {s' : State} → p.at ≡ 0
-    → PlayedSome window from kept s p kept' s'
-some-unwritten none = record { inside = omega arith; carried = λ some. absurd (some none) }
-
--- ---- The loop.
+use Rattle.playback.specs.Windows.{Carries}
+use Rattle.playback.proofs.Turns.{carry-none, carry-on}
+use Rattle.replay.specs.Played.{PlayedSome}
 
 -- A write failed, and the window is not all taken; or it goes on, and what was taken is carried.
 abbrev pub Going : List ℕ → Progress → List ℕ → State → ℕ → ℕ → Progress → List ℕ → State → Type 0
@@ -69,24 +57,3 @@ play-on {window} {from} {kept} {s} {at} {end} {p} {kept'} {s'} {q} {kept''} {s''
           some e ∙ g.0,
           subst (λ (l : List ℕ). Carries l from kept s q kept'' s'') (rest_of window at q.at y.inside) (carry-on g.1 (y.carried e)),
         )
-
--- What is taken of the rest of a window is there.
-pub within : (at taken : ℕ) (window : List ℕ) → taken ≤ length (take (length window - at) (drop at window)) → at ≤ length window
-    → at + taken ≤ length window
-within at taken window most inside =
-    omega (arith, length-take (length window - at) (drop at window), length-drop at window)
-
-pub nearer : (at end end' taken : ℕ) → at < end → (taken ≡ 0 → end' ≡ 0) → ((taken ≡ 0 → ⊥) → end' ≡ end) → end' - (at + taken) < end - at
-nearer at end end' zero before none some = omega (arith, none refl)
-nearer at end end' (suc k) before none some = let same : end' ≡ end = some (λ e. omega arith) in omega arith
-
-pub play-done : {window : List ℕ} {from : Progress} {kept : List ℕ} {s : State} {at end : ℕ} {p : Progress} {kept' : List ℕ} {s' : State} {q : Progress}
-    → Playing window from kept s at end p kept' s' → q.at ≡ at → q.matched ≡ p.matched → q.number ≡ p.number → q.have ≡ p.have
-    → Played window from kept s q kept' s'
-play-done {window} {from} {kept} {s} {at} {end} {p} {kept'} {s'} {q} x a m n h =
-    record { inside = omega (arith, x.inside); carried = λ all. go all x.going }
-  where
-    go : q.at ≡ length window → Going window from kept s at end p kept' s' → Carries window from kept s q kept' s'
-    go all (inl f) = absurd (omega arith)
-    go all (inr g) =
-        carry-as m n h (subst (λ (l : List ℕ). Carries l from kept s p kept' s') (take_all at window (omega arith)) g.1)

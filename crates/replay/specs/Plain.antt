@@ -2,30 +2,36 @@
 -- puts into a window is free, and so is whether a write succeeds. It goes on with another read (0),
 -- is at the file's end (1), can't read (2) or can't write (3), which also stands for an output
 -- without room for a line, or a record too many to be counted.
-use Rattle.std.specs.Prelude.{ℕ, suc, ◌≤◌, ◌<◌, ◌≡◌, ◌⊎◌, List, [], ◌∷◌, ◌++◌, ℤ, pos, negsuc, length, take, drop}
+use Rattle.std.specs.Prelude.{ℕ, suc, ◌≤◌, ◌<◌, ◌≡◌, ◌⊎◌, min, List, [], ◌∷◌, ◌++◌, length, take, drop, Result, Ok, Err}
 use Rattle.std.proofs.lemmas.List.Edits.{sets}
-use Rattle.io.specs.Counts.{clamp_len}
+use Rattle.std_io.specs.declared.io.error.Error.{Error}
 use Rattle.front_end.specs.State.{State}
 use Rattle.session_file.specs.Plain.{HasPreamble, Splits}
 use Rattle.playback.specs.Plain.{Countable, Closes, Printed}
 
--- The bytes that a read gave: as many as it answered, at the start of the window.
-abbrev pub given : ℤ → List ℕ → List ℕ
-given got window = take (clamp_len got (length window)) window
+-- How many bytes a read gave, into a window with so much room: as many as it answered, none where it
+-- failed.
+abbrev pub count_of : Result ℕ Error → ℕ → ℕ
+count_of (Ok n) room = min n room
+count_of (Err e) room = 0
+
+-- The bytes that a read gave, at the start of the window.
+abbrev pub given : Result ℕ Error → List ℕ → List ℕ
+given got window = take (count_of got (length window)) window
 
 -- Rules 9.4 and 9.7: how it goes on behind a read, with these bytes read. A read that fails; one
 -- that gives nothing, which is the file's end; and one that gives some: a file that is no session
 -- need not be read to its end.
-pub record GoesOn (got : ℤ) (bytes : List ℕ) (how : ℕ) : Type 0 where
-  pub failed : {k : ℕ} → got ≡ negsuc k → how ≡ 2
-  pub ended : got ≡ pos 0 → how ≡ 1
-  pub some : {k : ℕ} → got ≡ pos (suc k) → (how ≡ 0) ⊎ ((how ≡ 1) × (HasPreamble bytes → ⊥))
+pub record GoesOn (got : Result ℕ Error) (bytes : List ℕ) (how : ℕ) : Type 0 where
+  pub failed : {e : Error} → got ≡ Err e → how ≡ 2
+  pub ended : got ≡ Ok 0 → how ≡ 1
+  pub some : {k : ℕ} → got ≡ Ok (suc k) → (how ≡ 0) ⊎ ((how ≡ 1) × (HasPreamble bytes → ⊥))
 
 -- So many reads, one after another while it goes on, each into a window with room, how it goes on
 -- behind the last of them, and the bytes that they gave. Where a write failed it does not go on.
 pub data Reads : ℕ → ℕ → List ℕ → Type 0 where
   none : Reads 0 0 []
-  next : {n how : ℕ} {bytes : List ℕ} (got : ℤ) (window : List ℕ) → Reads n 0 bytes → 0 < length window
+  next : {n how : ℕ} {bytes : List ℕ} (got : Result ℕ Error) (window : List ℕ) → Reads n 0 bytes → 0 < length window
       → ((how ≡ 3 → ⊥) → GoesOn got (bytes ++ given got window) how) → Reads (suc n) how (bytes ++ given got window)
 
 -- The last lines, with room for so many bytes: at the end of a file what is printed behind the last

@@ -1,6 +1,7 @@
 -- Rule 9.6: the program's windows, as far as a contract can speak of them: what was read is free,
 -- and so is whether a write succeeds.
-use Rattle.std.specs.Prelude.{ℕ, zero, suc, ◌≤◌, ◌<◌, ◌≡◌, Bool, cond, ◌||◌, List, eqb, ℤ, pos, negsuc, length, take}
+use Rattle.std.specs.Prelude.{ℕ, zero, suc, ◌≤◌, ◌<◌, ◌≡◌, Bool, cond, ◌||◌, List, eqb, length, take, Result, Ok, Err}
+use Rattle.std_io.specs.declared.io.error.Error.{Error}
 use Rattle.text.specs.Text.{Puts}
 use Rattle.front_end.specs.State.{State}
 use Rattle.session_file.specs.Session.{spoiled}
@@ -47,20 +48,20 @@ abbrev pub carried : BetweenReads → Progress
 carried s = progress 0 0 s.matched s.number s.have
 
 -- How it goes on behind what a read answered, with so much of the preamble.
-unfoldable pub onward : ℤ → ℕ → ℕ
-onward (negsuc k) matched = unreadable
-onward (pos zero) matched = ended
-onward (pos (suc k)) matched = cond (eqb matched spoiled) ended more
+unfoldable pub onward : Result ℕ Error → ℕ → ℕ
+onward (Err e) matched = unreadable
+onward (Ok zero) matched = ended
+onward (Ok (suc k)) matched = cond (eqb matched spoiled) ended more
 
 -- A read has answered `got`: unless a write failed, all bytes that it gave have taken on what is
 -- carried, and it goes on as the answer says. A window has room for some bytes.
-pub record TakenIn (s : BetweenReads) (got : ℤ) (window kept : List ℕ) (t : State) (s' : BetweenReads) (kept' : List ℕ) (t' : State) : Type 0 where
+pub record TakenIn (s : BetweenReads) (got : Result ℕ Error) (window kept : List ℕ) (t : State) (s' : BetweenReads) (kept' : List ℕ) (t' : State) : Type 0 where
   pub taken : (s'.how ≡ 3 → ⊥) → Carries (given got window) (carried s) kept t (carried s') kept' t'
   pub goes_on : 0 < length window → (s'.how ≡ 3 → ⊥) → s'.how ≡ onward got s'.matched
 
 -- A window was read; what the read answered is free.
 pub record WindowTaken (s : BetweenReads) (kept : List ℕ) (t : State) (window : List ℕ) (s' : BetweenReads) (kept' : List ℕ) (t' : State) : Type 0 where
-  pub got : ℤ
+  pub got : Result ℕ Error
   pub answered : TakenIn s got window kept t s' kept' t'
 
 -- The last lines are so many bytes at the start of the output, which else is as it was.

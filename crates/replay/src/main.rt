@@ -3,15 +3,19 @@
 #![tactic(auto)]
 
 ghost use Rattle.std.specs.Prelude.{◌+◌, ◌≤◌, ◌<◌, ◌≡◌, length};
+ghost use Rattle.io.specs.Counts.{IsPrefixLen};
 ghost use Rattle.front_end.specs.State.{state, reset_state};
 ghost use Rattle.replay.specs.Played.{PlayedSome, Played, way_of, carried, TakenIn, WindowTaken, LastLines, Closed};
-ghost use Rattle.replay.specs.Plain.{RunPlain};
+ghost use Rattle.replay.specs.Plain.{count_of, RunPlain};
 
 use front_end::{GAINS_SIZE, MAP_SIZE, REPLY_ROOM};
-use libc::{STDIN_FILENO, STDOUT_FILENO};
 use playback::Progress;
 use session_file::KEPT_SIZE;
 use settings::layout::BLOCK_SIZE;
+use std::io::{Read, Stdin};
+
+// The descriptor of standard output.
+const STDOUT: i32 = 1;
 
 // As much as a pipe holds.
 const WINDOW_SIZE: usize = 65536;
@@ -28,7 +32,7 @@ const UNREADABLE: usize = 2;
 
 const UNWRITABLE: usize = 3;
 
-fn main() {
+fn main(rt: HostRuntime) {
     let mut block = [0u8; BLOCK_SIZE];
     let mut staged = [0u16; MAP_SIZE];
     let mut live = [0u16; MAP_SIZE];
@@ -37,8 +41,10 @@ fn main() {
     let mut kept = [0u8; KEPT_SIZE];
     let mut window = [0u8; WINDOW_SIZE];
     let mut out = [0u8; WINDOW_SIZE];
+    let mut input = rt.stdin();
     front_end_numbers::reset(&mut block, &mut staged, &mut live, &mut gains);
     run(
+        &mut input,
         &mut window,
         &mut kept,
         &mut block,
@@ -62,6 +68,7 @@ struct BetweenReads {
 // Window after window, until there is no more to read or to write. Answers how it stands at the
 // end.
 fn run(
+    input: &mut Stdin,
     window: &mut [u8],
     kept: &mut [u8],
     block: &mut [u8],
@@ -82,7 +89,9 @@ fn run(
     };
     let mut turns = MOST_READS;
     while 0 < turns {
-        s = one_window(s, window, kept, block, staged, live, gains, reply, out);
+        s = one_window(
+            s, input, window, kept, block, staged, live, gains, reply, out,
+        );
         turns = left(turns, s.how);
     }
     close(s, out);
@@ -92,6 +101,7 @@ fn run(
 // Reads a window, and replays it.
 fn one_window(
     s: BetweenReads,
+    input: &mut Stdin,
     window: &mut [u8],
     kept: &mut [u8],
     block: &mut [u8],
@@ -104,14 +114,14 @@ fn one_window(
     ensures { WindowTaken s kept.old (state block.old staged.old live.old gains.old)
         window.new result kept.new (state block.new staged.new live.new gains.new) }
 {
-    let got = libc::read(STDIN_FILENO, window);
+    let got = input.read(window);
     take_in(s, got, window, kept, block, staged, live, gains, reply, out)
 }
 
 // Replays what a read gave: it failed, or put so many bytes at the start of the window.
 fn take_in(
     s: BetweenReads,
-    got: isize,
+    got: std::io::Result<usize>,
     window: &[u8],
     kept: &mut [u8],
     block: &mut [u8],
@@ -124,7 +134,7 @@ fn take_in(
     ensures { TakenIn s got window.now kept.old (state block.old staged.old live.old gains.old)
         result kept.new (state block.new staged.new live.new gains.new) }
 {
-    let n = io::count(got, window);
+    let n = count(got, window);
     let p = play(
         &window[..n],
         progress(s),
@@ -140,11 +150,22 @@ fn take_in(
         matched: p.matched,
         number: p.number,
         have: p.have,
-        how: way(got < 0, n, p),
+        how: way(got.is_err(), n, p),
     }
 }
 
-// The same, at the start of a window.
+// How many bytes a read gave, of those that the window has: none where it failed.
+fn count(got: std::io::Result<usize>, window: &[u8]) -> usize
+    ensures in_bounds { IsPrefixLen result window.now }
+    ensures value { result ≡ count_of got (length window.now) }
+{
+    match got {
+        Ok(n) => n.min(window.len()),
+        Err(_) => 0,
+    }
+}
+
+// What is carried, at the start of a window.
 fn progress(s: BetweenReads) -> Progress
     ensures { result ≡ carried s }
 {
@@ -159,6 +180,7 @@ fn progress(s: BetweenReads) -> Progress
 
 // How it goes on after a read that failed, or gave n bytes of which those up to p.at were replayed
 // and their lines written. A file that is no session need not be read to its end.
+#[tactic(auto, unfolding(crate::specs::Played::way_of))]
 fn way(failed: bool, n: usize, p: Progress) -> usize
     ensures { result ≡ way_of failed n p }
 {
@@ -190,7 +212,7 @@ fn close(s: BetweenReads, out: &mut [u8])
     ensures { Closed s out.old out.new }
 {
     let size = last_lines(s, out);
-    io::write_all(STDOUT_FILENO, &out[..size]);
+    io::write_all(STDOUT, &out[..size]);
 }
 
 // The last lines, over the start of the output: none behind a write that failed.
@@ -274,7 +296,7 @@ fn play_some(
 {
     let p = playback::replay(window, from, kept, block, staged, live, gains, reply, out);
     let size = p.size;
-    if !io::write_all(STDOUT_FILENO, &out[..size]) {
+    if !io::write_all(STDOUT, &out[..size]) {
         return Progress {
             at: 0,
             size: 0,

@@ -1,0 +1,11 @@
+-- Head, flag and colour, count, start and words are the packet.
+use Rattle.std.proofs.Common.{◌+◌}
+use Rattle.batch.proofs.Writing.{number-part, pairs-put}
+use Rattle.batch.proofs.numbers.packet_of_pairs.Goals as goal
+
+pub returns-clause-put : goal.returns-clause-put
+returns-clause-put c =
+    let args = c.args in
+    let within = number-part args.pairs.now (args.from + args.n) c.requires.4 in
+    rw (c.words.ensures, c.word-3.ensures, c.word-2.ensures, c.word.ensures, c.head.ensures, c.open.ensures)
+    (pairs-put args.buffer args.filled args.pairs.now args.from args.n args.colour args.start within c.requires.2)
