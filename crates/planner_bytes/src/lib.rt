@@ -132,13 +132,13 @@ pub fn plan(
     batch: &mut [u8],
 ) -> Answer
     ensures { PlannedBytes points held.now wanted.now
-        (record { plan = plan.entry.now; room = room.old; choices = choices.old; batch = batch.old })
+        (record { plan = plan.old; room = room.old; choices = choices.old; batch = batch.old })
         (record {
           status = result.status;
           packets = result.packets;
           bytes = result.bytes;
           left =
-              record { plan = plan.exit.now; room = room.new; choices = choices.new; batch = batch.new };
+              record { plan = plan.new; room = room.new; choices = choices.new; batch = batch.new };
         }) }
 {
     let n = points as usize;

@@ -127,8 +127,8 @@ pub extern "C" fn vermolgas_plan(
     batch: &mut [u8],
 ) -> u64
     ensures { PackedPlan points held.now wanted.now
-        (record { plan = plan.entry.now; room = room.old; choices = choices.old; batch = batch.old })
-        result (record { plan = plan.exit.now; room = room.new; choices = choices.new; batch = batch.new }) }
+        (record { plan = plan.old; room = room.old; choices = choices.old; batch = batch.old })
+        result (record { plan = plan.new; room = room.new; choices = choices.new; batch = batch.new }) }
 {
     let a = planner_bytes::plan(points, held, wanted, plan, room, choices, batch);
     a.status as u64 + 256 * a.packets as u64 + 4294967296 * a.bytes as u64
