@@ -1,4 +1,5 @@
 // The C entries (include/vermolgas.h): each calls the function that does its work and packs the answer into a number.
+// This is a library, whose contracts promises speaks of; vermolgas_c makes the static library of it.
 #![tactic(auto)]
 
 ghost use Rattle.std.specs.Prelude.{◌≡◌, not, eqb};
