@@ -1,5 +1,5 @@
 //! Links the programs that call C entries, each with the library whose entries it calls, from the folder
-//! in VERMOLGAS_LIB or where `rt staticlib` writes it. The others are built without one.
+//! in VERMOLGAS_LIB or where `tools/build` puts it. The others are built without one.
 
 use std::env;
 use std::path::PathBuf;

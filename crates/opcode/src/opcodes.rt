@@ -10,7 +10,7 @@ pub(crate) const NOT_CARRIED: usize = 0;
 
 pub(crate) const VARIABLE: usize = 2;
 
-// A row a line, a hexadecimal digit for each of kind and sizes in their order.
+// Row by row from opcode 00h on, a hexadecimal digit for each of kind and sizes in their order.
 const ROWS: [u16; 256] = [
     0x0000, // 00h
     0x0000, 0x0000, 0x0000, 0x0000, 0x0000, 0x0000, 0x0000, 0x0000, 0x0000, 0x0000, 0x0000, 0x0000,

@@ -1,4 +1,5 @@
 // The C entries (include/vermolgas.h): each calls the function that does its work and packs the answer into a number.
+// This is a library, whose contracts promises speaks of; vermolgas_c makes the static library of it.
 #![tactic(auto)]
 
 ghost use Rattle.std.specs.Prelude.{◌≡◌, not, eqb};
@@ -127,8 +128,8 @@ pub extern "C" fn vermolgas_plan(
     batch: &mut [u8],
 ) -> u64
     ensures { PackedPlan points held.now wanted.now
-        (record { plan = plan.entry.now; room = room.old; choices = choices.old; batch = batch.old })
-        result (record { plan = plan.exit.now; room = room.new; choices = choices.new; batch = batch.new }) }
+        (record { plan = plan.old; room = room.old; choices = choices.old; batch = batch.old })
+        result (record { plan = plan.new; room = room.new; choices = choices.new; batch = batch.new }) }
 {
     let a = planner_bytes::plan(points, held, wanted, plan, room, choices, batch);
     a.status as u64 + 256 * a.packets as u64 + 4294967296 * a.bytes as u64

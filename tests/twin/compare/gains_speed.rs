@@ -1,6 +1,6 @@
 //! Measures compressed gains on a full colour: compressing, splitting, and the front end on the packets,
 //! each of the library and of the twin, both from C bytes, in one run. From the repository's folder,
-//! after `rt staticlib vermolgas`:
+//! after `tools/build vermolgas`:
 //!
 //! `cargo run --profile speed --offline --locked --manifest-path tests/twin/Cargo.toml --bin bench_gains`
 

@@ -1,6 +1,6 @@
 //! Measures upload planning on full maps: plans a second of the library and of the twin, both from C
 //! bytes, in one run, and the bytes that a plan saves. From the repository's folder, after
-//! `rt staticlib vermolgas`:
+//! `tools/build vermolgas`:
 //!
 //! `cargo run --profile speed --offline --locked --manifest-path tests/twin/Cargo.toml --bin bench_planning`
 

@@ -1,7 +1,7 @@
 //! Measures the rising test of 35h, called alone: nanoseconds a call of the library and of the twin, in
 //! one run, on lists that rise and on lists that are wrong at one entry; and the time on lists wrong at
 //! the second entry as a share of that on rising ones. A share of the library above the limit is a
-//! failure. From the repository's folder, after `rt staticlib rising`:
+//! failure. From the repository's folder, after `tools/build rising`:
 //!
 //! `cargo run --profile speed --offline --locked --manifest-path tests/twin/Cargo.toml --bin bench_rising`
 

@@ -1,6 +1,6 @@
 //! Measures the front end: calls a second against the twin, in one run, and the stack that each C
 //! entry needs. An entry that needs more of it than docs/INTERFACE.md promises is a failure. From the
-//! repository's folder, after `rt staticlib vermolgas`:
+//! repository's folder, after `tools/build vermolgas`:
 //!
 //! `cargo run --profile speed --offline --locked --manifest-path tests/twin/Cargo.toml --bin bench_front_end`
 
