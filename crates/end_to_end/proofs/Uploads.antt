@@ -136,7 +136,7 @@ blended-bytes : {s : State} {start : ℕ} {new : List ℕ} {colour : ℕ} {t : S
 blended-bytes {s} {start = start} {new = new} Blended.red =
     subst (BlendedBytes (lent_of s) start (bytes new) 1) (with-bytes s start (2 * start) new refl) BlendedBytes.red
 blended-bytes {s} {start = start} {new = new} Blended.green =
-    subst (BlendedBytes (lent_of s) start (bytes new) 2) (with-bytes s (2016 + start) (4032 + 2 * start) new (omega arith)) BlendedBytes.green
+    subst (BlendedBytes (lent_of s) start (bytes new) 2) (with-bytes s (2016 + start) _ new (omega arith)) BlendedBytes.green
 blended-bytes {s} {start = start} {new = new} Blended.blue =
     subst (BlendedBytes (lent_of s) start (bytes new) 3) (with-bytes s (4032 + start) (8064 + 2 * start) new (omega arith)) BlendedBytes.blue
 blended-bytes {s} {start = start} {new = new} Blended.all =
