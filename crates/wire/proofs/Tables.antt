@@ -10,6 +10,7 @@ use lib.Seq.{take-nil, drop-nil, get_or-drop, sets, paste}
 use Rattle.wire.specs.Numbers.{word_at, long_at}
 use Rattle.wire.specs.Buffers.{over}
 use Rattle.wire.specs.Tables.{pairs, halves, words, longs, long_bytes}
+pub use Rattle.wire.specs.ElementsHeld.{length_pairs, pairs-take, pairs-drop}
 
 double : (n : ℕ) → 2 * suc n ≡ suc (suc (2 * n))
 double n = omega arith
@@ -35,11 +36,6 @@ halves_pairs b (x ∷ y ∷ r) e h =
     )
 
 -- Lengths.
-pub length_pairs : (b : ℕ) (l : List ℕ) → length (pairs b l) ≡ length l / 2
-length_pairs b [] = refl
-length_pairs b (x ∷ []) = refl
-length_pairs b (x ∷ y ∷ r) = omega (arith, length_pairs b r)
-
 pub length-halves : (b : ℕ) (l : List ℕ) → length (halves b l) ≡ 2 * length l
 length-halves b [] = refl
 length-halves b (n ∷ r) = omega (arith, length-halves b r)
@@ -53,18 +49,6 @@ pairs-append b (x ∷ y ∷ s) t e = rw (pairs-append b s t (omega arith))
 pub halves-append : (b : ℕ) (l m : List ℕ) → halves b (l ++ m) ≡ halves b l ++ halves b m
 halves-append b [] m = refl
 halves-append b (n ∷ l) m = rw (halves-append b l m)
-
-pub pairs-take : (b n : ℕ) (s : List ℕ) → pairs b (take (2 * n) s) ≡ take n (pairs b s)
-pairs-take b zero s = refl
-pairs-take b (suc n) [] = rw (double n)
-pairs-take b (suc n) (x ∷ []) = rw (double n, take-nil)
-pairs-take b (suc n) (x ∷ y ∷ s) = rw (double n, pairs-take b n s)
-
-pub pairs-drop : (b n : ℕ) (s : List ℕ) → pairs b (drop (2 * n) s) ≡ drop n (pairs b s)
-pairs-drop b zero s = refl
-pairs-drop b (suc n) [] = rw (double n)
-pairs-drop b (suc n) (x ∷ []) = rw (double n, drop-nil)
-pairs-drop b (suc n) (x ∷ y ∷ s) = rw (double n, pairs-drop b n s)
 
 pub halves-take : (b n : ℕ) (l : List ℕ) → halves b (take n l) ≡ take (2 * n) (halves b l)
 halves-take b zero l = refl

@@ -5,3 +5,6 @@ pub mod Checksum
 pub mod First
 pub mod Buffers
 pub mod Plain
+pub mod Refusals
+pub mod Elements
+pub mod ElementsHeld

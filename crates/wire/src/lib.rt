@@ -7,45 +7,11 @@ ghost use Rattle.std.proofs.lemmas.List.Edits.{sets};
 ghost use Rattle.wire.specs.Numbers.{byte_at, word_at, long_at, word_bytes};
 ghost use Rattle.wire.specs.Checksum.{«checksum», ChecksumAgrees};
 
-// Why a packet was refused: the number of rule 4.1, 0 where it was not; and on refusal 10 the place of the fault (rule 4.6), its offset in the
-// data, else 0.
-#[derive(Clone, Copy)]
-pub struct Refusal {
-    pub number: u8,
-    pub place: usize,
-}
+pub mod element;
+pub mod refusal;
 
-// Nothing is refused; and the refusals that need no look at a packet's bytes: something is lent wrong, and a packet is too long.
-pub const ACCEPTED: Refusal = Refusal {
-    number: 0,
-    place: 0,
-};
-
-pub const LENT_WRONG: Refusal = Refusal {
-    number: 1,
-    place: 0,
-};
-
-pub const TOO_LONG: Refusal = Refusal {
-    number: 3,
-    place: 0,
-};
-
-impl Refusal {
-    // Without a place.
-    pub fn by(number: u8) -> Self
-        ensures { (result.number ≡ number) × (result.place ≡ 0) }
-    {
-        Refusal { number, place: 0 }
-    }
-
-    // A value out of its range, at this place.
-    pub fn value_at(place: usize) -> Self
-        ensures { (result.number ≡ 10) × (result.place ≡ place) }
-    {
-        Refusal { number: 10, place }
-    }
-}
+pub use element::Element;
+pub use refusal::Refusal;
 
 // The most bytes of a packet and of a reply.
 pub const LONGEST: usize = 512;
