@@ -1,2 +1,3 @@
+pub mod Parts
 pub mod Plain
 pub mod Writing
