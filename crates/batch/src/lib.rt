@@ -21,6 +21,13 @@ pub struct Batch<'a> {
     pub filled: usize,
 }
 
+// How many packets a batch has, and how many bytes they are.
+#[derive(Clone, Copy, Debug, PartialEq, Eq)]
+pub struct Sent {
+    pub packets: usize,
+    pub bytes: usize,
+}
+
 // n numbers of a list from a place on.
 pub fn part<T: Element>(list: &[T], from: usize, n: usize) -> &[T]
     requires { from + n ≤ length (T.numbers list.now) }
