@@ -2,24 +2,19 @@
 // and turned into a reply's bytes.
 #![tactic(auto)]
 
-ghost use Rattle.std.specs.Prelude.{◌≡◌, ◌+◌, ◌*◌, ◌≤◌, ◌<◌, length, take, drop, replicate, set};
+ghost use Rattle.std.specs.Prelude.{◌≡◌, ◌+◌, ◌*◌, ◌≤◌, ◌<◌, length, replicate, set};
 ghost use Rattle.std.proofs.lemmas.List.Edits.{sets};
 ghost use Rattle.gain_words.specs.Pairs.{expand, sum_runs};
 ghost use Rattle.wire.specs.Tables.{words, bytes};
 
 use wire::Element;
 
-// What is written in a table, and out of it. Numbers are copied one by one, bytes as they lie.
+// What is written in a table, and out of it: numbers one by one, bytes as they lie.
 pub trait Table: Element {
     // Number i is v.
     fn put(table: &mut [Self], i: usize, v: u16)
         requires { i < length (Self.numbers table.old) }
         ensures { Self.numbers table.new ≡ set (Self.numbers table.old) i v };
-
-    // n numbers from a place on are v.
-    fn fill(table: &mut [Self], at: usize, n: usize, v: u16)
-        requires { at + n ≤ length (Self.numbers table.old) }
-        ensures { Self.numbers table.new ≡ sets (Self.numbers table.old) at (replicate n v) };
 
     // The numbers in src, low byte first, from a place on.
     fn words_in(table: &mut [Self], at: usize, src: &[u8])
@@ -37,13 +32,9 @@ impl Table for u16 {
         table[i] = v;
     }
 
-    fn fill(table: &mut [u16], at: usize, n: usize, v: u16) {
-        table[at..at + n].fill(v);
-    }
-
     fn words_in(table: &mut [u16], at: usize, src: &[u8]) {
-        for i in 0..src.len() / 2 {
-            table[at + i] = wire::number(src[2 * i], src[2 * i + 1]);
+        for i in 0..u8::count(src) {
+            table[at + i] = u8::number(src, i);
         }
     }
 
@@ -59,32 +50,34 @@ impl Table for u8 {
         wire::put_word(table, 2 * i, v as usize);
     }
 
-    fn fill(table: &mut [u8], at: usize, n: usize, v: u16) {
-        for i in at..at + n {
-            wire::put_word(table, 2 * i, v as usize);
-        }
-    }
-
     fn words_in(table: &mut [u8], at: usize, src: &[u8]) {
-        let n = src.len() / 2 * 2;
-        table[2 * at..2 * at + n].copy_from_slice(&src[..n]);
+        wire::copy(table, 2 * at, src, 0, 2 * u8::count(src));
     }
 
     fn words_out(dst: &mut [u8], at: usize, part: &[u8]) {
-        let n = part.len() / 2 * 2;
-        dst[at..at + n].copy_from_slice(&part[..n]);
+        wire::copy(dst, at, part, 0, 2 * u8::count(part));
     }
 }
 
-// What pairs of a run and a gain in src stand for, into the table from a place on.
+// n numbers from a place on are v.
+pub fn fill<T: Table>(table: &mut [T], at: usize, n: usize, v: u16)
+    requires { at + n ≤ length (T.numbers table.old) }
+    ensures { T.numbers table.new ≡ sets (T.numbers table.old) at (replicate n v) }
+{
+    for i in 0..n {
+        T::put(table, at + i, v);
+    }
+}
+
+// What pairs of a run and a gain in src stand for, from a place on.
 pub fn runs_in<T: Table>(table: &mut [T], at: usize, src: &[u8])
     requires { at + sum_runs (words src.now) ≤ length (T.numbers table.old) }
     ensures { T.numbers table.new ≡ sets (T.numbers table.old) at (expand (words src.now)) }
 {
     let mut place = at;
-    for i in 0..src.len() / 4 {
-        let run = <u8 as Element>::number(src, 2 * i) as usize;
-        T::fill(table, place, run, <u8 as Element>::number(src, 2 * i + 1));
+    for k in 0..u8::count(src) / 2 {
+        let run = u8::number(src, 2 * k) as usize;
+        fill(table, place, run, u8::number(src, 2 * k + 1));
         place += run;
     }
 }
