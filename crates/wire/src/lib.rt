@@ -10,7 +10,7 @@ ghost use Rattle.wire.specs.Checksum.{«checksum», ChecksumAgrees};
 pub mod element;
 pub mod refusal;
 
-pub use element::Element;
+pub use element::{Element, part};
 pub use refusal::Refusal;
 
 // The most bytes of a packet and of a reply.
