@@ -103,3 +103,10 @@ pub fn put_word(dst: &mut [u8], at: usize, v: usize)
     dst[at] = (v % 256) as u8;
     dst[at + 1] = (v / 256 % 256) as u8;
 }
+
+// The bytes from a place on, none past the end.
+pub fn behind(s: &[u8], at: usize) -> &[u8]
+    ensures { result.now ≡ drop at s.now }
+{
+    if at < s.len() { &s[at..] } else { &[] }
+}
