@@ -1,5 +1,5 @@
 -- Bits of a number as a list: there and back, one of them set or cleared, and the language's counts of them.
-use Prim.Native.Nat.{ℕ, zero, suc, ◌+◌, ◌-◌, ◌*◌, ◌/◌, ◌%◌, ◌^◌, ◌≤◌, ◌<◌}
+use Prim.Native.Nat.{ℕ, zero, suc, ◌+◌, ◌-◌, ◌*◌, ◌/◌, ◌%◌, ◌^◌, ◌≤◌, ◌<◌, min}
 use mathlib.Core.Path.{◌≡◌, refl, ap, ◌∙◌}
 use mathlib.Core.Bool.{Bool, true, false, cond}
 use mathlib.Core.List.{List, [], ◌∷◌}
@@ -9,7 +9,8 @@ use native.Mathlib.Omega.{arith}
 use borrow.Author.Tests.{eq-eqb, ne_eqb}
 use lib.ListN.{length, get_or, set}
 use lib.Dec.{eqb}
-use lib.Bits.{bit_or, or_step, or_zero_r}
+use lib.Bits.{bit_and, bit_or, and_step, or_step, or_zero_r}
+use lib.Pow.{pow-lt, pow_pos}
 use lib.Count.{ones, ones_step, count_trailing_zeros}
 use Rattle.row_mark.specs.Bits.{bits_of, of_bits, bit_at, count_true, first_true}
 
@@ -47,21 +48,38 @@ bit-set (suc k) m zero h = rw (or-low m) (bits-pair k (m / 2) 1 (omega arith))
 bit-set (suc k) m (suc r) h =
     rw (or-high m r) (bits-pair k (bit_or (m / 2) (2 ^ r)) (m % 2) (omega arith) ∙ rw (bit-set k (m / 2) r (omega arith)))
 
--- And cleared again.
-pub bit-there : (m r : ℕ) → 2 ^ r ≤ bit_or m (2 ^ r)
-bit-there m zero = rw (or-low m) (omega arith)
-bit-there m (suc r) = rw (or-high m r, pow-suc) (omega (arith, bit-there (m / 2) r))
+-- A number that has all bits but that one.
+all-half : (k : ℕ) → (2 ^ suc k - 1) / 2 ≡ 2 ^ k - 1
+all-half k = rw pow-suc (omega (arith, pow_pos k))
 
-pub bit-clear : (k m r : ℕ) → r < k → bits_of k (bit_or m (2 ^ r) - 2 ^ r) ≡ set (bits_of k m) r false
+all-odd : (k : ℕ) → (2 ^ suc k - 1) % 2 ≡ 1
+all-odd k = rw pow-suc (omega (arith, pow_pos k))
+
+keeps-all : (k m : ℕ) → bits_of k (bit_and m (2 ^ k - 1)) ≡ bits_of k m
+unfolding bits_of
+keeps-all zero m = refl
+keeps-all (suc k) m =
+    let low : min (m % 2) 1 ≡ m % 2 = omega arith in
+    rw (and_step, all-half k, all-odd k, low)
+    (bits-pair k (bit_and (m / 2) (2 ^ k - 1)) (m % 2) (omega arith) ∙ rw (keeps-all k (m / 2)))
+
+-- And cleared by them.
+pub bit-clear : (k m r : ℕ) → r < k → bits_of k (bit_and m (2 ^ k - 1 - 2 ^ r)) ≡ set (bits_of k m) r false
 unfolding bits_of
 bit-clear zero m r h = absurd (omega arith)
 bit-clear (suc k) m zero h =
-    let e : m / 2 * 2 + 1 - 2 ^ 0 ≡ m / 2 * 2 + 0 = omega arith in
-    rw (or-low m, e) (bits-pair k (m / 2) 0 (omega arith))
+    let few : (2 ^ suc k - 1 - 2 ^ 0) / 2 ≡ 2 ^ k - 1 = rw pow-suc (omega (arith, pow_pos k)) in
+    let odd : (2 ^ suc k - 1 - 2 ^ 0) % 2 ≡ 0 = rw pow-suc (omega (arith, pow_pos k)) in
+    let low : min (m % 2) 0 ≡ 0 = omega arith in
+    rw (and_step, few, odd, low)
+    (bits-pair k (bit_and (m / 2) (2 ^ k - 1)) 0 (omega arith) ∙ rw (keeps-all k (m / 2)))
 bit-clear (suc k) m (suc r) h =
-    let there = bit-there (m / 2) r in
-    let e : bit_or (m / 2) (2 ^ r) * 2 + m % 2 - 2 ^ r * 2 ≡ (bit_or (m / 2) (2 ^ r) - 2 ^ r) * 2 + m % 2 = omega arith in
-    rw (or-high m r, pow-suc, e) (bits-pair k (bit_or (m / 2) (2 ^ r) - 2 ^ r) (m % 2) (omega arith) ∙ rw (bit-clear k (m / 2) r (omega arith)))
+    let less : 2 ^ r < 2 ^ k = pow-lt (omega arith) in
+    let few : (2 ^ suc k - 1 - 2 ^ suc r) / 2 ≡ 2 ^ k - 1 - 2 ^ r = rw (pow-suc, pow-suc) (omega arith) in
+    let odd : (2 ^ suc k - 1 - 2 ^ suc r) % 2 ≡ 1 = rw (pow-suc, pow-suc) (omega arith) in
+    let low : min (m % 2) 1 ≡ m % 2 = omega arith in
+    rw (and_step, few, odd, low)
+    (bits-pair k (bit_and (m / 2) (2 ^ k - 1 - 2 ^ r)) (m % 2) (omega arith) ∙ rw (bit-clear k (m / 2) r (omega arith)))
 
 -- ---- Truths and bits.
 
@@ -112,6 +130,18 @@ first-set (suc k) n =
     elim (ℕ_discrete (n % 2) 1) [
       | yes e ↦ rw e
       | no e ↦ let none : n % 2 ≡ 0 = omega arith in rw (none, first-set k (n / 2))
+    ]
+
+-- Some bit of a number other than 0 is set.
+pub first-inside : (k n : ℕ) → n < 2 ^ k → 0 < n → first_true (bits_of k n) < k
+unfolding bits_of first_true
+first-inside zero n h some = absurd (omega arith)
+first-inside (suc k) n h some =
+    elim (ℕ_discrete (n % 2) 1) [
+      | yes e ↦ rw (eq-eqb _ _ e) (omega arith)
+      | no e ↦
+          let small : n / 2 < 2 ^ k = omega (arith, rw pow-suc at h) in
+          rw (ne_eqb _ _ e) (omega (arith, first-inside k (n / 2) small (omega arith)))
     ]
 
 -- Neither is more than the list is long.

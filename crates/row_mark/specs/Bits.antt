@@ -1,5 +1,6 @@
 -- Rule 11.1: the mark is a number of 32 bits; its bits as a list, the lowest first.
-use Rattle.std.specs.Prelude.{ℕ, zero, suc, ◌+◌, ◌*◌, ◌/◌, ◌%◌, ◌^◌, Bool, cond, List, [], ◌∷◌, eqb}
+use Rattle.std.specs.Prelude.{ℕ, zero, suc, ◌+◌, ◌*◌, ◌/◌, ◌%◌, ◌^◌, Bool, cond, eqb, ltb}
+use Rattle.std.specs.Prelude.{List, [], ◌∷◌, length, Option, Some, None}
 
 -- So many low bits of a number.
 unfoldable pub bits_of : ℕ → ℕ → List Bool
@@ -23,3 +24,7 @@ count_true (b ∷ bs) = cond b 1 0 + count_true bs
 unfoldable pub first_true : List Bool → ℕ
 first_true [] = 0
 first_true (b ∷ bs) = cond b 0 (suc (first_true bs))
+
+-- The same if one is, and none otherwise.
+abbrev pub first_set : List Bool → Option ℕ
+first_set bs = cond (ltb (first_true bs) (length bs)) (Some (first_true bs)) None

@@ -41,7 +41,7 @@ returns-then-two_points c = let args = c.args in
     four-other a b (start + 4 * i) (omega arith) (omega arith)
     (λ e f. either-differs _ _ _ _ c.if-two_points.true (read.staged-low ∙ e ∙ sym read.live-low) (read.staged-high ∙ f ∙ sym read.live-high)) in
     sym
-    (many-differ (words a) (words b) start (4 * args.n) (rw length_pairs (omega arith)) (rw length_pairs (omega arith)) 4 (4 * i) (omega arith) c.loop-i.invariant.1
+    (many-differ (words a) (words b) start (4 * args.n) (rw length_pairs (omega arith)) (rw length_pairs (omega arith)) 4 (4 * i) (omega arith) c.loop-i.invariant
     (λ same. apart (λ t l. let e : start + (4 * i + t) ≡ start + 4 * i + t = omega arith in subst (PointSame (words a) (words b)) e (same t l))))
 
 pub loop-i-preserved : goal.loop-i-preserved
@@ -55,12 +55,10 @@ loop-i-preserved c = let args = c.args in
     let same =
     four_same a b (start + 4 * i) (omega arith) (omega arith) (λ k. (c.type_inv.staged k).fits) (λ k. (c.type_inv.live k).fits)
     (sym read.staged-low ∙ none.0 ∙ read.live-low) (sym read.staged-high ∙ none.1 ∙ read.live-high) in
-    let next : 4 * i + 4 ≡ 4 * (i + 1) = omega arith in (
-      omega arith,
-      subst (Alike (words a) (words b) start (4 * args.n)) next
-          (alike-many (words a) (words b) start (4 * args.n) (rw length_pairs (omega arith)) (rw length_pairs (omega arith)) 4 (4 * i) (omega arith) c.loop-i.invariant.1
-          (λ t l. let e : start + 4 * i + t ≡ start + (4 * i + t) = omega arith in subst (PointSame (words a) (words b)) e (same t l))),
-    )
+    let next : 4 * i + 4 ≡ 4 * (i + 1) = omega arith in
+    subst (Alike (words a) (words b) start (4 * args.n)) next
+    (alike-many (words a) (words b) start (4 * args.n) (rw length_pairs (omega arith)) (rw length_pairs (omega arith)) 4 (4 * i) (omega arith) c.loop-i.invariant
+    (λ t l. let e : start + 4 * i + t ≡ start + (4 * i + t) = omega arith in subst (PointSame (words a) (words b)) e (same t l)))
 
 pub returns : goal.returns
-returns c = sym (alike_end (omega (arith, c.loop-i-test.false)) c.loop-i.invariant.1)
+returns c = sym (alike_end (omega (arith, c.loop-i-test.false)) c.loop-i.invariant)

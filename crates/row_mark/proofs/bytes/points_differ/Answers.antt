@@ -15,7 +15,7 @@ returns-then-point c = let args = c.args in
     let start = args.start in
     let i = c.loop-i.i in
     let other = other-point a b (start + i) (omega arith) (omega arith) (λ e. c.if-point.true (c.point.ensures ∙ e ∙ sym c.point-in-loop-i.ensures)) in
-    sym (alike-differs (words a) (words b) start args.n i (omega arith) (rw length_pairs (omega arith)) (rw length_pairs (omega arith)) c.loop-i.invariant.1 other)
+    sym (alike-differs (words a) (words b) start args.n i (omega arith) (rw length_pairs (omega arith)) (rw length_pairs (omega arith)) c.loop-i.invariant other)
 
 pub loop-i-preserved : goal.loop-i-preserved
 loop-i-preserved c = let args = c.args in
@@ -26,7 +26,7 @@ loop-i-preserved c = let args = c.args in
     let same =
     same_point a b (start + i) (omega arith) (omega arith) (λ k. (c.type_inv.staged k).fits) (λ k. (c.type_inv.live k).fits)
     (sym c.point.ensures ∙ c.if-point.false ∙ c.point-in-loop-i.ensures) in
-    (omega arith, alike-on (words a) (words b) start args.n i (omega arith) (rw length_pairs (omega arith)) (rw length_pairs (omega arith)) c.loop-i.invariant.1 same.0 same.1)
+    alike-on (words a) (words b) start args.n i (omega arith) (rw length_pairs (omega arith)) (rw length_pairs (omega arith)) c.loop-i.invariant same.0 same.1
 
 pub returns : goal.returns
-returns c = sym (alike_end c.loop-i-test.false c.loop-i.invariant.1)
+returns c = sym (alike_end c.loop-i-test.false c.loop-i.invariant)
