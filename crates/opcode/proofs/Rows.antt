@@ -13,10 +13,10 @@ use mir.Facts.{or_yes}
 use mir.Val.{has_key}
 use Rattle.opcode.specs.declared.Field.{Field}
 use Rattle.opcode.specs.Fields.{from_to_but}
-use Rattle.opcode.specs.Commands.{Command, commands, look_up, command_of, none}
+use Rattle.opcode.specs.Commands.{Command, commands, look_up, command_of, none, variable}
 use Rattle.opcode.specs.Internal.{Sized}
 use Rattle.opcode.proofs.Table.{and_left, and_right}
-use Rattle.opcode.proofs.Accepts.Commands.{Each, of-each}
+use Rattle.opcode.proofs.Accepts.Commands.{Each, of-each, of-all}
 
 ruleset parts = (and_left, and_right, eqb→eq)
 
@@ -130,3 +130,7 @@ pub asked : (ks : List ℕ) (op k : ℕ) {r : Field} → T (all (λ c. starts c.
     → r ≡ get_or (command_of op).sets k r → r ≡ get_or (command_of op).asks k r
 asked ks op k {r} t n =
     started r (command_of op).asks (command_of op).sets k (of-rest (λ c. starts c.asks c.sets) ks (λ op. tt) t op n)
+
+-- No kind is above that of commands whose size varies.
+pub few-kinds : (op : ℕ) → (command_of op).kind ≤ variable
+few-kinds op = of-all (λ c. c.kind ≤ variable) (omega arith) (omega arith) op

@@ -37,12 +37,10 @@ fn stretch(s: &[u8], at: usize) -> usize
     requires { at + 2 * (stretch_steps + 1) ≤ length s.now }
     ensures { (result ≡ «rise» (words_at s.now at (stretch_steps + 1))) × (result ≤ stretch_steps + 1) }
 {
-    let mut i = 0;
-    while i < STRETCH {
+    for i in 0..STRETCH {
         if !next_above(s, at + 2 * i) {
             return i + 1;
         }
-        i += 1;
     }
     STRETCH + 1
 }
@@ -60,13 +58,11 @@ fn walk(s: &[u8], at: usize, count: usize, from: usize) -> usize
     requires { (at ≤ 65536) × (count ≤ 65536) × RisenTo s.now at count from }
     ensures { (result ≡ «rise» (words_at s.now at count)) × (result ≤ count) }
 {
-    let mut i = from;
-    while i + 1 < count {
-        let place = at + 2 * i;
-        if wire::word(s, place + 2) <= wire::word(s, place) {
-            return i + 1;
+    for i in from + 1..count {
+        let before = at + 2 * (i - 1);
+        if wire::word(s, before + 2) <= wire::word(s, before) {
+            return i;
         }
-        i += 1;
     }
     count
 }
