@@ -1,5 +1,5 @@
 -- What only private functions of this crate need, and no rule: what a packed row stands for, and how lists are gone through.
-use Rattle.std.specs.Prelude.{ℕ, ◌+◌, ◌*◌, ◌-◌, ◌/◌, ◌%◌, ◌≤◌, ◌≡◌, Bool, cond, List}
+use Rattle.std.specs.Prelude.{ℕ, ◌+◌, ◌*◌, ◌-◌, ◌/◌, ◌%◌, ◌≤◌, ◌≡◌, List}
 use Rattle.opcode.specs.Fields.{words_at, rise}
 use Rattle.opcode.specs.Commands.{Command}
 

@@ -1,7 +1,7 @@
 // Rule 2.2: the bits of a header. Options are bits 3 to 7 in place, so both are asked alike.
 ghost use Rattle.std.specs.Prelude.{◌≡◌, eqb};
-ghost use Rattle.opcode.specs.Options.{«two_byte», «has_length», «has_checksum», «asks_reply»};
-ghost use Rattle.opcode.specs.Options.{is_read, «destination», options_in};
+ghost use Rattle.opcode.specs.Options.{«two_byte», «has_length», «has_checksum»};
+ghost use Rattle.opcode.specs.Options.{«asks_reply», is_read, «destination», options_in};
 
 #[derive(Clone, Copy, Debug, PartialEq, Eq)]
 pub struct Header {

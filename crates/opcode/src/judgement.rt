@@ -1,12 +1,14 @@
 // The judgement of a command, rule by rule: refusals 7 to 11 of rule 4.1.
-ghost use Rattle.std.specs.Prelude.{◌≡◌, ◌*◌, ◌≤◌, length};
+ghost use Rattle.std.specs.Prelude.{◌≡◌, ◌*◌, ◌≤◌, length, drop};
 ghost use Rattle.wire.specs.First.{first};
 ghost use Rattle.wire.specs.Refusals.{status_of, fault_of};
 ghost use Rattle.opcode.specs.Commands.{row_of, told};
-ghost use Rattle.opcode.specs.Judgement.{judgement, fault_place, «size_wrong», «variable_size_wrong», «value_fault», «variable_fault»};
-ghost use Rattle.opcode.specs.Judgement.{«unknown», «lacks_length», «named_only»};
-ghost use Rattle.opcode.specs.Judgement.{«points_size_wrong», «gains_size_wrong», «control_size_wrong», «smooth_size_wrong»};
-ghost use Rattle.opcode.specs.Judgement.{«in_pairs», «words_fault», «gains_fault», «lists_fault», «control_fault», «smooth_fault»};
+ghost use Rattle.opcode.specs.Judgement.{judgement, fault_place, «lacks_length», «named_only»};
+ghost use Rattle.opcode.specs.Judgement.{«size_wrong», «variable_size_wrong», «value_fault»};
+ghost use Rattle.opcode.specs.Judgement.{«points_size_wrong», «gains_size_wrong»};
+ghost use Rattle.opcode.specs.Judgement.{«control_size_wrong», «smooth_size_wrong»};
+ghost use Rattle.opcode.specs.Judgement.{«variable_fault», «in_pairs», «words_fault», «gains_fault»};
+ghost use Rattle.opcode.specs.Judgement.{«lists_fault», «control_fault», «smooth_fault»};
 
 use super::fields::{asks, fault, sets};
 use super::limits::{MOST_COLUMNS, MOST_ROWS};
@@ -15,7 +17,8 @@ use super::opcodes::row_at;
 use super::{Header, Kind, Row};
 use wire::Refusal;
 
-// 2Bh: compression, colour, count and start. 35h: mode, columns and rows; or the mode and two lists. 38h: columns and rows.
+// 2Bh: compression, colour, count and start. 35h: mode, columns and rows; or the mode and two
+// lists. 38h: columns and rows.
 const GAINS_HEAD: usize = 6;
 
 const CONTROL_DATA: usize = 5;
@@ -33,7 +36,8 @@ const SMOOTH_HEAD: usize = 2;
 #[tactic(auto, unfolding(crate::specs::Judgement::judgement))]
 pub fn judge(opcode: usize, options: Header, data: &[u8]) -> Result<(), Refusal>
     ensures { (status_of result ≡ first (judgement opcode options.bits «data».now))
-        × (fault_of result ≡ fault_place (first (judgement opcode options.bits «data».now)) opcode options.bits «data».now) }
+        × (fault_of result ≡ fault_place (first (judgement opcode options.bits «data».now))
+        opcode options.bits «data».now) }
 {
     let row = row_at(opcode);
     if row.kind == Kind::NotCarried {
@@ -102,6 +106,13 @@ pub fn in_pairs(data: &[u8]) -> bool
     ensures { result ≡ «in_pairs» «data».now }
 {
     wire::byte(data, 0) == 1
+}
+
+// 2Bh: the bytes of its words, none where the data ends before them.
+pub fn words(data: &[u8]) -> &[u8]
+    ensures { result.now ≡ drop 6 «data».now }
+{
+    &data[GAINS_HEAD.min(data.len())..]
 }
 
 // 2Bh: compression, colour, count, start, and as many words as the count says; in pairs, an even count.
@@ -185,13 +196,15 @@ fn gains_fault(data: &[u8]) -> usize
 }
 
 // 2Bh: the index of the first word at fault: a gain, or of a pair the run before the gain.
+#[tactic(auto, unfolding(crate::specs::Judgement::words_fault))]
 fn words_fault(data: &[u8]) -> usize
     ensures { (result ≡ «words_fault» «data».now) × (2 * result ≤ length «data».now) }
 {
+    let words = words(data);
     if in_pairs(data) {
-        return gain_words::bytes::pair_fault(data, GAINS_HEAD);
+        return gain_words::pair_fault(words);
     }
-    gain_words::bytes::first_large(data, GAINS_HEAD)
+    gain_words::first_large(words)
 }
 
 // 35h: in mode 1 the lists, else the fields.

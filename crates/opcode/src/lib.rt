@@ -1,4 +1,5 @@
-// The commands carried: the table of all one-byte opcodes, the fields of their data, and the judgement of a command (refusals 7 to 11).
+// The commands carried: the table of all one-byte opcodes, the fields of their data, and the
+// judgement of a command (refusals 7 to 11).
 #![tactic(auto)]
 
 mod fields;
@@ -9,11 +10,12 @@ mod lists;
 mod opcodes;
 
 pub use header::Header;
-pub use judgement::{in_pairs, judge};
+pub use judgement::{in_pairs, judge, words};
 pub use lists::{next_above, rise};
 pub use opcodes::row_at;
 
-// A field of a command's data: its bytes, and the numbers it takes, from low to high but for those from gap up to past.
+// A field of a command's data: its bytes, and the numbers it takes, from low to high but for those
+// from gap up to past.
 #[derive(Clone, Copy)]
 pub struct Field {
     pub size: usize,

@@ -6,14 +6,21 @@ use Rattle.opcode.proofs.fields.fault.Goals as goal
 
 pub returns-then-not-takes : goal.returns-then-not-takes
 returns-then-not-takes c = let args = c.args in
-    sym (c.loop-field.invariant.1 ∙ fault-stop args.fields.now c.loop-field.field-index (omega arith) args.«data».now c.loop-field.at c.number.ensures.0 c.takes.ensures c.if-not-takes.true)
+    let i = c.loop-field.field-index in
+    let stop = fault-stop args.fields.now i (omega arith)
+    args.«data».now c.loop-field.at c.number.ensures.0 c.takes.ensures c.if-not-takes.true in
+    sym (c.loop-field.invariant.1 ∙ stop)
 
 pub loop-field-preserved : goal.loop-field-preserved
 loop-field-preserved c = let args = c.args in
-    let turn = fault-turn args.fields.now c.loop-field.field-index (omega arith) args.«data».now c.loop-field.at c.number.ensures.0 c.takes.ensures c.if-not-takes.false in
-    let left = span-turn args.fields.now c.loop-field.field-index (omega arith) in
+    let i = c.loop-field.field-index in
+    let turn = fault-turn args.fields.now i (omega arith)
+    args.«data».now c.loop-field.at c.number.ensures.0 c.takes.ensures c.if-not-takes.false in
+    let left = span-turn args.fields.now i (omega arith) in
     (omega arith, c.loop-field.invariant.1 ∙ turn)
 
 pub returns : goal.returns
 returns c = let args = c.args in
-    sym (c.loop-field.invariant.1 ∙ fault-done args.fields.now c.loop-field.field-index (omega arith) args.«data».now c.loop-field.at)
+    let i = c.loop-field.field-index in
+    let done = fault-done args.fields.now i (omega arith) args.«data».now c.loop-field.at in
+    sym (c.loop-field.invariant.1 ∙ done)
