@@ -6,7 +6,7 @@ ghost use Rattle.opcode.specs.Internal.{Sized};
 use super::{Kind, Row};
 
 // Row by row from opcode 00h on, a hexadecimal digit for each of kind and sizes in their order.
-const ROWS: [u16; 256] = [
+static ROWS: [u16; 256] = [
     0x0000, // 00h
     0x0000, 0x0000, 0x0000, 0x0000, 0x0000, 0x0000, 0x0000, 0x0000, 0x0000, 0x0000, 0x0000, 0x0000,
     0x0000, 0x0000, 0x0000, 0x0000, // 10h
