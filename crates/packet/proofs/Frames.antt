@@ -8,6 +8,9 @@ use borrow.Author.Tests.{ltb-false, eqb-true, eqb-false, eq-eqb}
 use lib.ListN.{length, take, drop}
 use lib.Dec.{eqb}
 use Rattle.wire.specs.First.{first}
+use Rattle.wire.specs.declared.refusal.Refusal.{Refusal}
+use Rattle.wire.specs.declared.refusal.Refusal.TheVariants.{LentWrong, TooShort, TooLong, LengthDiffers, ChecksumDiffers, NotForUs, Unknown, LacksLength, SizeWrong, ValueWrong, NamedOnly, RunsPast}
+use Rattle.wire.specs.Refusals.{number_of}
 use Rattle.wire.proofs.Tests.{first-silent, first-left, first-right, none_both}
 use Rattle.opcode.specs.Judgement.{judgement, fault_place}
 use Rattle.packet.specs.Frame.{header_of, opcode_of, options_of, place, fields, data_size, data_of}
@@ -145,3 +148,18 @@ judged-read p op o at size n f h e =
     e.1 ∙ ap (λ (n : ℕ). fault_place n op o (take (at + size - at) (drop at p))) (sym e.0) ∙ alike (fault_place n) s.same-opcode s.same-options there in
     ap (λ (f : ℕ). cond (eqb n 0) (command_at op o at size) (refused_by n f)) found
     ∙ ap (λ (a : Answer). cond (eqb n 0) a (refused_by n (fault_of n p))) (h ∙ ap (λ (n : ℕ). answered n p) s.none) ∙ ap (λ (n : ℕ). answered n p) number
+
+-- No refusal has the number 0.
+pub refusal-some : (why : Refusal) → eqb (number_of why) 0 ≡ false
+refusal-some LentWrong = refl
+refusal-some TooShort = refl
+refusal-some TooLong = refl
+refusal-some LengthDiffers = refl
+refusal-some ChecksumDiffers = refl
+refusal-some NotForUs = refl
+refusal-some Unknown = refl
+refusal-some LacksLength = refl
+refusal-some SizeWrong = refl
+refusal-some (ValueWrong place) = refl
+refusal-some NamedOnly = refl
+refusal-some RunsPast = refl
