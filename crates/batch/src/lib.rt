@@ -2,17 +2,16 @@
 // head, then numbers of 16 bits, one by one or as a part of a list.
 #![tactic(auto)]
 
-ghost use Rattle.std.specs.Prelude.{◌≡◌, ◌+◌, ◌*◌, ◌≤◌, ◌<◌, length, take, drop};
+ghost use Rattle.std.specs.Prelude.{◌≡◌, ◌+◌, ◌*◌, ◌≤◌, ◌<◌, length};
 ghost use Rattle.wire.specs.Numbers.{word_bytes};
 ghost use Rattle.wire.specs.Tables.{bytes};
 ghost use Rattle.upload.specs.Plan.{packet_for};
-ghost use Rattle.upload.specs.Parts.{«part» as part_of};
+ghost use Rattle.upload.specs.Parts.{«part»};
 ghost use Rattle.batch.specs.Pairs.{pairs_packet};
 ghost use Rattle.batch.specs.Internal.{behind, WordFits, head_of, HeadFits};
 ghost use Rattle.batch.specs.Writing.{PacketFits, PairsFit};
 
 use tables::Table;
-use wire::Element;
 
 // Rule 6.6: the caller's buffer, and how far it is filled.
 #[derive(Drop)]
@@ -26,14 +25,6 @@ pub struct Batch<'a> {
 pub struct Sent {
     pub packets: usize,
     pub bytes: usize,
-}
-
-// n numbers of a list from a place on.
-pub fn part<T: Element>(list: &[T], from: usize, n: usize) -> &[T]
-    requires { from + n ≤ length (T.numbers list.now) }
-    ensures { T.numbers result.now ≡ take n (drop from (T.numbers list.now)) }
-{
-    &list[T::WIDTH * from..T::WIDTH * (from + n)]
 }
 
 impl<'a> Batch<'a> {
@@ -68,11 +59,11 @@ impl<'a> Batch<'a> {
     // One 34h packet: start and points of the map.
     pub fn put_packet<T: Table>(&mut self, wanted: &[T], start: usize, count: usize)
         requires { PacketFits self.old.buffer.now self.old.filled (T.numbers wanted.now) start count }
-        ensures { self.new ≡ behind self.old (packet_for (T.numbers wanted.now) (part_of start count)) }
+        ensures { self.new ≡ behind self.old (packet_for (T.numbers wanted.now) (part start count)) }
     {
         self.head(0x34, 2 + 4 * count);
         self.word(start);
-        self.words(part(wanted, 2 * start, 2 * count));
+        self.words(wire::part(wanted, 2 * start, 2 * count));
     }
 
     // One 2Bh packet of compressed gains: these words of pairs.
