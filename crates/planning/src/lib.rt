@@ -67,6 +67,13 @@ fn points_wrong(points: u32) -> bool
 }
 
 impl<'a, T: Element> Maps<'a, T> {
+    pub fn new(held: &'a [T], wanted: &'a [T]) -> Maps<'a, T>
+        requires { Small (T.numbers held.now) × Small (T.numbers wanted.now) }
+        ensures { (result.held.now ≡ held.now) × (result.wanted.now ≡ wanted.now) }
+    {
+        Maps { held, wanted }
+    }
+
     // Whether a point differs.
     fn differs_at(&self, i: usize) -> bool
         requires { (2 * i + 1 < length (T.numbers self.now.held.now))
