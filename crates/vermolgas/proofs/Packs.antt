@@ -14,8 +14,16 @@ use Rattle.front_end.specs.Demands.{RowsPromised}
 use Rattle.front_end.proofs.Fresh.{FewRows, told-few}
 use Rattle.front_end_bytes.specs.Bytes.{Lent, LentOut}
 use Rattle.front_end_bytes.specs.Promises.{HandledBytes}
+use Rattle.compressor.specs.Plain.{CompressOut}
+use Rattle.compressor.specs.Compressing.{CompressedBytes}
+use Rattle.splitter.specs.Plain.{SplitOut}
+use Rattle.splitter.specs.Splitting.{SplitBytes}
+use Rattle.upload.specs.Plain.{PlanLists, PlanOut}
+use Rattle.upload.specs.Planning.{PlannedBytes}
+use Rattle.upload.proofs.Small.{answer-small}
 use Rattle.vermolgas.specs.Packed.{packed_reading, PackedRead, packed_made, PackedMake, packed_reply, PackedReplyRead}
 use Rattle.vermolgas.specs.Packed.{packed_out, PackedHandled, packed_rows, PackedRows}
+use Rattle.vermolgas.specs.Packed.{packed_compress, PackedCompress, packed_split, PackedSplit, packed_plan, PackedPlan}
 
 pub read-packed : (p : List ℕ) (n : ℕ) (a : Answer) → n ≡ packed_reading a
     → (a.number < 256) × (a.opcode < 256) × (a.options < 256) × (a.place < 256) × (a.size < 65536) × (a.fault-place < 65536)
@@ -71,4 +79,50 @@ rows-packed block n status count lowest e r =
             plain = r.plain;
           };
       promise = r;
+    }
+
+-- Gains compressed and pairs split: there are few of each, so each is what its bits say.
+pub compress-packed : (gains room : List ℕ) (n : ℕ) (o : CompressOut) → n ≡ packed_compress o → o.status < 256 → CompressedBytes gains room o
+    → PackedCompress gains room n o.room
+compress-packed gains room n o e small told =
+    record {
+      packed = e ∙ ap packed_compress told.outcome;
+      plain = record { status = o.status; pairs = o.pairs; bits = e; small = small; plain = told.plain };
+      promise = told;
+    }
+
+pub split-packed : (colour start : ℕ) (pairs batch : List ℕ) (n : ℕ) (o : SplitOut) → n ≡ packed_split o → o.status < 256
+    → SplitBytes colour start pairs batch o → PackedSplit colour start pairs batch n o.batch
+split-packed colour start pairs batch n o e small told =
+    record {
+      packed = e ∙ ap packed_split told.right.outcome;
+      plain =
+          record {
+            status = o.status;
+            packets = o.packets;
+            size = o.bytes;
+            bits = e;
+            small = (small, omega (arith, told.right.few), omega (arith, told.right.few));
+            plain = told.right.plain;
+          };
+      promise = told;
+    }
+
+-- An upload planned.
+pub plan-packed : (points : ℕ) (held wanted : List ℕ) (before : PlanLists) (n : ℕ) (o : PlanOut) → n ≡ packed_plan o → o.status < 256
+    → PlannedBytes points held wanted before o → PackedPlan points held wanted before n o.left
+plan-packed points held wanted before n o e small told =
+    let few = answer-small told in
+    record {
+      packed = e ∙ ap packed_plan told.outcome;
+      plain =
+          record {
+            status = o.status;
+            packets = o.packets;
+            size = o.bytes;
+            bits = e;
+            small = (small, omega (arith, few), omega (arith, few));
+            plain = told.plain;
+          };
+      promise = told;
     }

@@ -103,8 +103,10 @@ pub extern "C" fn vermolgas_read_reply(reply: &[u8], checksum: u8) -> u64
 pub extern "C" fn vermolgas_compress(gains: &[u8], pairs: &mut [u8]) -> u64
     ensures { PackedCompress gains.now pairs.old result pairs.new }
 {
-    let c = compressor::bytes::compress(gains, pairs);
-    c.status as u64 + 256 * c.pairs as u64
+    match compressor::bytes::compress(gains, pairs) {
+        Ok(count) => 256 * count as u64,
+        Err(why) => why.number() as u64,
+    }
 }
 
 // Splits pairs for a colour and a start into packets, back to back in the batch.
@@ -112,8 +114,10 @@ pub extern "C" fn vermolgas_compress(gains: &[u8], pairs: &mut [u8]) -> u64
 pub extern "C" fn vermolgas_split(colour: u32, start: u32, pairs: &[u8], batch: &mut [u8]) -> u64
     ensures { PackedSplit colour start pairs.now batch.old result batch.new }
 {
-    let s = splitter::bytes::split(colour, start, pairs, batch);
-    s.status as u64 + 256 * s.packets as u64 + 4294967296 * s.bytes as u64
+    match splitter::bytes::split(colour, start, pairs, batch) {
+        Ok(sent) => 256 * sent.packets as u64 + 4294967296 * sent.bytes as u64,
+        Err(why) => why.number() as u64,
+    }
 }
 
 // Plans an upload: the packets, back to back in the batch, that turn held into wanted in the fewest bytes.
@@ -131,6 +135,8 @@ pub extern "C" fn vermolgas_plan(
         (record { plan = plan.old; room = room.old; choices = choices.old; batch = batch.old })
         result (record { plan = plan.new; room = room.new; choices = choices.new; batch = batch.new }) }
 {
-    let a = planner_bytes::plan(points, held, wanted, plan, room, choices, batch);
-    a.status as u64 + 256 * a.packets as u64 + 4294967296 * a.bytes as u64
+    match planner_bytes::plan(points, held, wanted, plan, room, choices, batch) {
+        Ok(planned) => 256 * planned.packets as u64 + 4294967296 * planned.bytes as u64,
+        Err(why) => why.number() as u64,
+    }
 }

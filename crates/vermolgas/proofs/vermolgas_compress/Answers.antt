@@ -1,14 +1,16 @@
--- Status and pairs are packed side by side, and there are few pairs, so each is what its bits say.
-use mathlib.Core.Path.{refl, ap}
-use native.Mathlib.Omega.{arith}
-use Rattle.vermolgas.specs.Packed.{packed_compress}
+-- Status and pairs are packed side by side.
+use Rattle.std.proofs.Common.{arith}
+use Rattle.compressor.specs.Compressing.{compress_out}
+use Rattle.compressor.specs.Refusals.{number_of as code}
+use Rattle.vermolgas.proofs.Packs.{compress-packed}
 use Rattle.vermolgas.proofs.vermolgas_compress.Goals as goal
 
-pub returns : goal.returns
-returns c = let a = c.compress-c.result in
-    let told = c.compress-c.ensures in
-    record {
-      packed = ap packed_compress told.outcome;
-      plain = record { status = a.status; pairs = a.pairs; bits = refl; small = omega arith; plain = told.plain };
-      promise = told;
-    }
+pub returns-in-Ok : goal.returns-in-Ok
+returns-in-Ok c =
+    let args = c.args in
+    compress-packed args.gains.now args.pairs.now _ (compress_out 0 c.in-Ok.count c.compress.new.pairs) (omega arith) (omega arith) c.in-Ok.ensures
+
+pub returns-in-Err : goal.returns-in-Err
+returns-in-Err c =
+    let args = c.args in
+    compress-packed args.gains.now args.pairs.now _ (compress_out (code c.in-Err.why) 0 c.compress.new.pairs) (omega (arith, c.number.ensures)) (omega (arith, c.number.ensures)) c.in-Err.ensures

@@ -1,38 +1,31 @@
--- Status, packets and bytes are packed side by side, and none of them is large, so each is what its bits say.
-use Prim.Native.Nat.{◌≤◌}
-use mathlib.Core.Path.{refl, ap}
-use native.Mathlib.Omega.{arith}
+-- Status, packets and bytes are packed side by side.
+use Rattle.std.proofs.Common.{arith, ◌≤◌}
+use Rattle.upload.specs.Plain.{PlanLists}
+use Rattle.upload.specs.Planning.{plan_lists, plan_out}
 use Rattle.upload.proofs.Small.{answer-small}
-use Rattle.vermolgas.specs.Packed.{packed_plan}
-use Rattle.vermolgas.proofs.vermolgas_plan.Goals.{After-struct_known-1}
+use Rattle.planning.specs.Refusals.{number_of as code}
+use Rattle.vermolgas.proofs.Packs.{plan-packed}
 use Rattle.vermolgas.proofs.vermolgas_plan.Goals as goal
 
-small : (c : After-struct_known-1) → (c.plan-a.result.packets ≤ 8032) × (c.plan-a.result.bytes ≤ 8032)
-small c = answer-small c.plan-a.ensures
-
 pub overflow_mul-result : goal.overflow_mul-result
-overflow_mul-result c = omega (arith, small (goal.at.overflow_mul-result c).After-struct_known-1)
+overflow_mul-result c = omega (arith, answer-small c.in-Ok.ensures)
 
 pub overflow_add-result : goal.overflow_add-result
-overflow_add-result c = omega (arith, small (goal.at.overflow_add-result c).After-struct_known-1)
+overflow_add-result c = omega (arith, answer-small c.in-Ok.ensures)
 
-pub overflow_add-result-2 : goal.overflow_add-result-2
-overflow_add-result-2 c = omega (arith, small (goal.at.overflow_add-result-2 c).After-struct_known-1)
+pub returns-in-Ok : goal.returns-in-Ok
+returns-in-Ok c =
+    let args = c.args in
+    let new = c.plan.new in
+    let sent = c.in-Ok.planned in
+    let before = plan_lists args.plan.now args.room.now args.choices.now args.batch.now in
+    let left = plan_lists new.plan new.room new.choices new.batch in
+    plan-packed args.points args.held.now args.wanted.now before _ (plan_out 0 sent.packets sent.bytes left) (omega arith) (omega arith) c.in-Ok.ensures
 
-pub returns : goal.returns
-returns c = let a = c.plan-a.result in
-    let told = c.plan-a.ensures in
-    let s = small (goal.at.returns c).After-struct_known-1 in
-    record {
-      packed = ap packed_plan told.outcome;
-      plain =
-          record {
-            status = a.status;
-            packets = a.packets;
-            size = a.bytes;
-            bits = refl;
-            small = (omega arith, omega (arith, s), omega (arith, s));
-            plain = told.plain;
-          };
-      promise = told;
-    }
+pub returns-in-Err : goal.returns-in-Err
+returns-in-Err c =
+    let args = c.args in
+    let new = c.plan.new in
+    let before = plan_lists args.plan.now args.room.now args.choices.now args.batch.now in
+    let left = plan_lists new.plan new.room new.choices new.batch in
+    plan-packed args.points args.held.now args.wanted.now before _ (plan_out (code c.in-Err.why) 0 0 left) (omega (arith, c.number.ensures)) (omega (arith, c.number.ensures)) c.in-Err.ensures
