@@ -1,12 +1,13 @@
 -- What is done to a table's bytes, said of its numbers. tb is a table as its bytes: an even count, each below 256. Numbers and bytes turn into
 -- each other without loss, and n numbers from a place on are 2 * n bytes from twice that place on.
-use Prim.Native.Nat.{ℕ, zero, suc, ◌*◌, ◌/◌, ◌%◌, ◌<◌}
-use mathlib.Core.Path.{◌≡◌, refl, ap, ◌∙◌}
-use mathlib.Core.List.{List, [], ◌∷◌}
+use Prim.Native.Nat.{ℕ, zero, suc, ◌+◌, ◌*◌, ◌/◌, ◌%◌, ◌≤◌, ◌<◌}
+use mathlib.Core.Path.{◌≡◌, refl, sym, ap, ◌∙◌}
+use mathlib.Core.List.{List, [], ◌∷◌, ◌++◌}
 use native.Mathlib.Omega.{arith}
 use lib.ListN.{length, take, drop, get_or, replicate}
+use lib.Seq.{paste, length_paste_head, length-take-le, take_all}
 use Rattle.wire.specs.Tables.{words, bytes}
-use Rattle.wire.proofs.Tables.{pairs-halves, halves_pairs, length_pairs, halves-take, halves-drop, pairs_below}
+use Rattle.wire.proofs.Tables.{pairs-halves, halves_pairs, length_pairs, halves-take, halves-drop, pairs_below, pairs-append, pairs-take, pairs-drop}
 
 -- Every element is below a bound.
 abbrev pub Below : ℕ → List ℕ → Type 0
@@ -50,3 +51,28 @@ pub zero-bytes : (tb : List ℕ) → length tb % 2 ≡ 0 → bytes (replicate (l
 zero-bytes tb even =
     let e : 2 * (length tb / 2) ≡ length tb = omega arith in
     halves-zeros (length tb / 2) ∙ ap (λ (m : ℕ). replicate m 0) e
+
+-- A number that is there has both its bytes there.
+pub both-bytes : (tb : List ℕ) (i : ℕ) → i < length (words tb) → 2 * i + 1 < length tb
+both-bytes tb i h = omega (arith, length-words tb)
+
+-- Numbers copied as their bytes.
+pub words-paste : (d : List ℕ) (at : ℕ) (s : List ℕ) (n : ℕ) → 2 * at + 2 * n ≤ length d → 2 * n ≤ length s
+    → words (paste d (2 * at) s (2 * n)) ≡ paste (words d) at (words s) n
+words-paste d at s n hd hs =
+    let head = take (2 * at) d in
+    let front = length_paste_head d (2 * at) s (2 * n) (omega arith) hs in
+    let long = length-take-le (2 * at) d (omega arith) in
+    let behind : 2 * at + 2 * n ≡ 2 * (at + n) = omega arith in
+    pairs-append 256 (head ++ take (2 * n) s) (drop (2 * at + 2 * n) d) (omega arith)
+    ∙ ap (λ l. l ++ words (drop (2 * at + 2 * n) d)) (pairs-append 256 head (take (2 * n) s) (omega arith))
+    ∙ rw (pairs-take, pairs-take, behind, pairs-drop) refl
+
+-- Whatever bytes there are, those of their numbers are the first of them.
+pub bytes-words-first : (tb : List ℕ) → Below 256 tb → bytes (words tb) ≡ take (2 * length (words tb)) tb
+bytes-words-first tb small =
+    let n = length (words tb) in
+    let first = take (2 * n) tb in
+    let long : length first ≡ 2 * n = length-take-le (2 * n) tb (omega (arith, length-words tb)) in
+    let same : words first ≡ words tb = pairs-take 256 n tb ∙ take_all n (words tb) (omega arith) in
+    ap bytes (sym same) ∙ bytes-words first (omega arith) (take_below 256 (2 * n) tb small)

@@ -4,7 +4,6 @@ use Prim.Native.Nat.{ℕ, zero, suc, ◌+◌, ◌*◌, ◌/◌, ◌%◌, ◌≤�
 use mathlib.Core.Path.{◌≡◌, refl, ◌∙◌}
 use mathlib.Core.List.{List, [], ◌∷◌, append-nil}
 use native.Mathlib.Nat.{zero-add}
-use native.Mathlib.Numerals.{add-one}
 use native.Mathlib.Omega.{arith}
 use lib.ListN.{length, take, drop, get_or, set, length-take, length-drop, drop_of_length-le}
 use lib.Seq.{sets, take-length}
@@ -42,13 +41,16 @@ digits (n ∷ l) (suc i) =
     let low : 2 * suc i ≡ suc (suc (2 * i)) = omega arith in
     rw (high, low) (digits l i)
 
-pub turn-word : (l : List ℕ) {d₀ d : List ℕ} {i v : ℕ} → 2 * length l ≤ length d₀ → i < length l → v ≡ get_or l i 0
-    → Begun (bytes l) d₀ d (2 * i) → Begun (bytes l) d₀ (sets d (2 * i) (word_bytes v)) (2 * (i + 1))
-turn-word l {d₀} {d} {i} {v} hd h e r =
+pub turn-word : (l : List ℕ) {d₀ d : List ℕ} {at i v : ℕ} → at + 2 * length l ≤ length d₀ → i < length l → v ≡ get_or l i 0
+    → Copying d₀ at (bytes l) (2 * length l) d (2 * i)
+    → Copying d₀ at (bytes l) (2 * length l) (sets d (at + 2 * i) (word_bytes v)) (2 * (i + 1))
+turn-word l {d₀} {d} {at} {i} {v} hd h e r =
     let long = length-halves 256 l in
     let next : 2 * (i + 1) ≡ 2 * i + 1 + 1 = omega arith in
-    let e₂ = digits l i in
-    rw (next, ← add-one (2 * i), e) (turn (omega arith) (omega arith) e₂.1 (turn (omega arith) (omega arith) e₂.0 r))
+    let high : suc (at + 2 * i) ≡ at + (2 * i + 1) = omega arith in
+    let two = digits l i in
+    let low = laws.turn {v = get_or l i 0 % 256} hd (omega arith) (omega arith) two.0 r in
+    rw (next, e, high) (laws.turn {v = get_or l i 0 / 256} hd (omega arith) (omega arith) two.1 low)
 
 -- A part that is there is as long as it says.
 pub part-long : (l : List ℕ) (from n : ℕ) → from + n ≤ length l → length (take n (drop from l)) ≡ n

@@ -1,122 +1,83 @@
-// Tables of 16-bit numbers: filled from a packet's bytes, turned into a reply's bytes, copied whole, and reset. Two families: tables lent as
-// numbers, and tables lent as their bytes.
+// Tables of 16-bit numbers, however they are lent: filled, written from a packet's bytes and runs,
+// and turned into a reply's bytes.
 #![tactic(auto)]
 
-ghost use Rattle.std.specs.Prelude.{◌≡◌, ◌+◌, ◌*◌, ◌/◌, ◌%◌, ◌≤◌, ◌<◌, length, take, drop, replicate};
-ghost use Rattle.std.proofs.Math.Seq.{paste};
+ghost use Rattle.std.specs.Prelude.{◌≡◌, ◌+◌, ◌*◌, ◌≤◌, ◌<◌, length, replicate, set};
 ghost use Rattle.std.proofs.lemmas.List.Edits.{sets};
 ghost use Rattle.gain_words.specs.Pairs.{expand, sum_runs};
 ghost use Rattle.wire.specs.Tables.{words, bytes};
-ghost use Rattle.wire.specs.Buffers.{over};
 
-// n numbers out of src's bytes from a place on, into the table from a place on.
-pub fn words_in(table: &mut [u16], at: usize, src: &[u8], from: usize, n: usize)
-    requires { (at + n ≤ length table.old) × (from + 2 * n ≤ length src.now) }
-    ensures { table.new ≡ paste table.old at (words (drop from src.now)) n }
-{
-    let mut i = 0;
-    while i < n {
-        let j = from + 2 * i;
-        table[at + i] = wire::number(src[j], src[j + 1]);
-        i += 1;
-    }
+use wire::Element;
+
+// What is written in a table, and out of it: numbers one by one, bytes as they lie.
+pub trait Table: Element {
+    // Number i is v.
+    fn put(table: &mut [Self], i: usize, v: u16)
+        requires { i < length (Self.numbers table.old) }
+        ensures { Self.numbers table.new ≡ set (Self.numbers table.old) i v };
+
+    // The numbers in src, low byte first, from a place on.
+    fn words_in(table: &mut [Self], at: usize, src: &[u8])
+        requires { at + length (words src.now) ≤ length (Self.numbers table.old) }
+        ensures { Self.numbers table.new ≡ sets (Self.numbers table.old) at (words src.now) };
+
+    // The bytes of a part's numbers, into dst from a place on.
+    fn words_out(dst: &mut [u8], at: usize, part: &[Self])
+        requires { at + 2 * length (Self.numbers part.now) ≤ length dst.old }
+        ensures { dst.new ≡ sets dst.old at (bytes (Self.numbers part.now)) };
 }
 
-// The bytes of n numbers of the table from a place on, over the start of dst.
-pub fn words_out(dst: &mut [u8], table: &[u16], from: usize, n: usize)
-    requires { (2 * n ≤ length dst.old) × (from + n ≤ length table.now) }
-    ensures { dst.new ≡ over (bytes (take n (drop from table.now))) dst.old }
-{
-    let mut i = 0;
-    while i < n {
-        wire::put_word(dst, 2 * i, table[from + i] as usize);
-        i += 1;
-    }
-}
-
-// The table as another one of its length is.
-pub fn copy_words(table: &mut [u16], src: &[u16])
-    requires { length table.old ≡ length src.now }
-    ensures { table.new ≡ src.now }
-{
-    let mut i = 0;
-    while i < src.len() {
-        table[i] = src[i];
-        i += 1;
-    }
-}
-
-// One number everywhere.
-pub fn fill_words(table: &mut [u16], v: u16)
-    ensures { table.new ≡ replicate (length table.old) v }
-{
-    let mut i = 0;
-    while i < table.len() {
+impl Table for u16 {
+    fn put(table: &mut [u16], i: usize, v: u16) {
         table[i] = v;
-        i += 1;
+    }
+
+    fn words_in(table: &mut [u16], at: usize, src: &[u8]) {
+        for i in 0..u8::count(src) {
+            table[at + i] = u8::number(src, i);
+        }
+    }
+
+    fn words_out(dst: &mut [u8], at: usize, part: &[u16]) {
+        for i in 0..part.len() {
+            wire::put_word(dst, at + 2 * i, part[i] as usize);
+        }
     }
 }
 
-// One number everywhere, in the bytes of a table.
-pub fn fill_bytes(table: &mut [u8], v: usize)
-    requires { (v < 65536) × (length table.old % 2 ≡ 0) }
-    ensures { table.new ≡ bytes (replicate (length table.old / 2) v) }
-{
-    let n = table.len() / 2;
-    let mut i = 0;
-    while i < n {
-        wire::put_word(table, 2 * i, v);
-        i += 1;
+impl Table for u8 {
+    fn put(table: &mut [u8], i: usize, v: u16) {
+        wire::put_word(table, 2 * i, v as usize);
+    }
+
+    fn words_in(table: &mut [u8], at: usize, src: &[u8]) {
+        wire::copy(table, 2 * at, src, 0, 2 * u8::count(src));
+    }
+
+    fn words_out(dst: &mut [u8], at: usize, part: &[u8]) {
+        wire::copy(dst, at, part, 0, 2 * u8::count(part));
     }
 }
 
-// One number at n places of the table, from a place on.
-fn fill_part(table: &mut [u16], at: usize, n: usize, v: u16)
-    requires { at + n ≤ length table.old }
-    ensures { table.new ≡ sets table.old at (replicate n v) }
+// n numbers from a place on are v.
+pub fn fill<T: Table>(table: &mut [T], at: usize, n: usize, v: u16)
+    requires { at + n ≤ length (T.numbers table.old) }
+    ensures { T.numbers table.new ≡ sets (T.numbers table.old) at (replicate n v) }
 {
-    fill_words(&mut table[at..at + n], v);
+    for i in 0..n {
+        T::put(table, at + i, v);
+    }
 }
 
-// What pairs of a run and a gain stand for, out of src's bytes from a place on, into the table from a place on.
-pub fn runs_in(table: &mut [u16], at: usize, src: &[u8], from: usize)
-    requires { (at + sum_runs (words (drop from src.now)) ≤ length table.old) × (from ≤ 65536) }
-    ensures { table.new ≡ sets table.old at (expand (words (drop from src.now))) }
+// What pairs of a run and a gain in src stand for, from a place on.
+pub fn runs_in<T: Table>(table: &mut [T], at: usize, src: &[u8])
+    requires { at + sum_runs (words src.now) ≤ length (T.numbers table.old) }
+    ensures { T.numbers table.new ≡ sets (T.numbers table.old) at (expand (words src.now)) }
 {
     let mut place = at;
-    let mut i = 0;
-    while from + 2 * i + 3 < src.len() {
-        let j = from + 2 * i;
-        let run = wire::number(src[j], src[j + 1]) as usize;
-        let gain = wire::number(src[j + 2], src[j + 3]);
-        fill_part(table, place, run, gain);
+    for k in 0..u8::count(src) / 2 {
+        let run = u8::number(src, 2 * k) as usize;
+        fill(table, place, run, u8::number(src, 2 * k + 1));
         place += run;
-        i += 2;
-    }
-}
-
-// One number at n places of the table in bytes, from a place on.
-fn fill_part_bytes(table: &mut [u8], at: usize, n: usize, v: usize)
-    requires { (2 * (at + n) ≤ length table.old) × (v < 65536) }
-    ensures { table.new ≡ sets table.old (2 * at) (bytes (replicate n v)) }
-{
-    fill_bytes(&mut table[2 * at..2 * at + 2 * n], v);
-}
-
-// The same into the bytes of a table.
-pub fn runs_in_bytes(table: &mut [u8], at: usize, src: &[u8], from: usize)
-    requires { (2 * (at + sum_runs (words (drop from src.now))) ≤ length table.old) × (from ≤ 65536) }
-    ensures { table.new ≡ sets table.old (2 * at) (bytes (expand (words (drop from
-        src.now)))) }
-{
-    let mut place = at;
-    let mut i = 0;
-    while from + 2 * i + 3 < src.len() {
-        let j = from + 2 * i;
-        let run = wire::number(src[j], src[j + 1]) as usize;
-        let gain = wire::number(src[j + 2], src[j + 3]) as usize;
-        fill_part_bytes(table, place, run, gain);
-        place += run;
-        i += 2;
     }
 }

@@ -5,6 +5,7 @@ use Rattle.std.specs.Prelude.{ℕ, ◌*◌, ◌≤◌, ◌≡◌, List, length, 
 pub record ElementLaws {T : Type 0} (width : ℕ) (numbers : List T → List ℕ) : Type 0 where
   pub some : 1 ≤ width
   pub few : width ≤ 2
+  pub short : (s : List T) → length (numbers s) ≤ length s
   pub long : (s : List T) → width * length (numbers s) ≤ length s
   pub counted : (s : List T) (n : ℕ) → length s ≡ width * n → length (numbers s) ≡ n
   pub taken : (s : List T) (n : ℕ) → numbers (take (width * n) s) ≡ take n (numbers s)

@@ -30,6 +30,7 @@ number_laws =
     record {
       some = omega arith;
       few = omega arith;
+      short = λ s. omega arith;
       long = λ s. omega arith;
       counted = λ s n e. omega (arith, e);
       taken = λ s n. let e : 1 * n ≡ n = omega arith in ap (λ (k : ℕ). take k s) e;
@@ -41,6 +42,7 @@ byte_laws =
     record {
       some = omega arith;
       few = omega arith;
+      short = λ s. omega (arith, length_pairs 256 s);
       long = λ s. omega (arith, length_pairs 256 s);
       counted = λ s n e. omega (arith, e, length_pairs 256 s);
       taken = λ s n. pairs-take 256 n s;

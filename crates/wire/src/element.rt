@@ -1,5 +1,5 @@
 // Lists of 16-bit numbers, however they are lent: as the numbers, or as their bytes.
-ghost use Rattle.std.specs.Prelude.{◌≡◌, ◌<◌, ◌≤◌, ℕ, List, length, get_or};
+ghost use Rattle.std.specs.Prelude.{◌≡◌, ◌<◌, ◌≤◌, ◌+◌, ◌*◌, ℕ, List, length, get_or, take, drop};
 ghost use Rattle.wire.specs.Tables.{words};
 ghost use Rattle.wire.specs.Elements.{ElementLaws, themselves};
 ghost use Rattle.wire.specs.ElementsHeld.{number_laws, byte_laws};
@@ -60,4 +60,12 @@ impl Element for u8 {
     fn number(list: &[u8], i: usize) -> u16 {
         super::number(list[2 * i], list[2 * i + 1])
     }
+}
+
+// n numbers of a list, from a place on.
+pub fn part<T: Element>(list: &[T], from: usize, n: usize) -> &[T]
+    requires { from + n ≤ length (T.numbers list.now) }
+    ensures { T.numbers result.now ≡ take n (drop from (T.numbers list.now)) }
+{
+    &list[T::WIDTH * from..T::WIDTH * (from + n)]
 }

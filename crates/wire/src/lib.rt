@@ -10,7 +10,7 @@ ghost use Rattle.wire.specs.Checksum.{«checksum», ChecksumAgrees};
 pub mod element;
 pub mod refusal;
 
-pub use element::Element;
+pub use element::{Element, part};
 pub use refusal::Refusal;
 
 // The most bytes of a packet and of a reply.
@@ -102,4 +102,11 @@ pub fn put_word(dst: &mut [u8], at: usize, v: usize)
 {
     dst[at] = (v % 256) as u8;
     dst[at + 1] = (v / 256 % 256) as u8;
+}
+
+// The bytes from a place on, none past the end.
+pub fn behind(s: &[u8], at: usize) -> &[u8]
+    ensures { result.now ≡ drop at s.now }
+{
+    if at < s.len() { &s[at..] } else { &[] }
 }

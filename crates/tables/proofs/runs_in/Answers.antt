@@ -1,44 +1,30 @@
--- What is left to write makes the goal: a pair fills its run and moves the place, and at the end nothing is left.
-use Prim.Native.Nat.{ℕ, ◌+◌}
-use mathlib.Core.Path.{◌≡◌, ◌∙◌}
-use mathlib.Core.List.{List}
-use native.Mathlib.Omega.{arith}
-use lib.ListN.{drop}
+use Rattle.std.proofs.Common.{◌*◌, ◌∙◌, arith}
+use lib.Seq.{length-sets}
 use Rattle.wire.specs.Tables.{words}
-use Rattle.gain_words.specs.Pairs.{sum_runs}
-use Rattle.gain_words.proofs.Walk.{PairAt, pair-at, words-few}
+use Rattle.gain_words.proofs.Walk.{next-pair}
 use Rattle.tables.proofs.Parts.{runs-turn, runs-left, runs_done}
-use Rattle.tables.proofs.runs_in.Goals.{After-number-gain}
 use Rattle.tables.proofs.runs_in.Goals as goal
 
-abbrev words_of : After-number-gain → List ℕ
-words_of c = let args = c.args in words (drop args.from args.src.now)
+pub fill-requires : goal.fill-requires
+fill-requires g c = let ws = words c.args.src.now in
+    omega (arith, c.loop-k.invariant.1, c.loop-k.invariant.2, runs-left ws (2 * c.loop-k.k) (omega arith) c.number-run.ensures)
 
-here : (c : After-number-gain)
-    → let args = c.args in
-    PairAt args.src.now args.from c.loop-i.i c.number-run.result c.number-gain.result
-here c =
-    let args = c.args in
-    pair-at args.src.now args.from c.loop-i.i (omega arith) c.number-run.ensures c.number-gain.ensures
+pub overflow_add-place : goal.overflow_add-place
+overflow_add-place g c = let ws = words c.args.src.now in
+    omega (arith, c.loop-k.invariant.1, runs-left ws (2 * c.loop-k.k) (omega arith) c.number-run.ensures, g.T.Element.laws.short c.args.table.now)
 
-left : (c : After-number-gain)
-    → let i = c.loop-i.i in
-    sum_runs (drop i (words_of c)) ≡ c.number-run.result + sum_runs (drop (i + 2) (words_of c))
-left c = runs-left (words_of c) c.loop-i.i (here c).within (here c).run_at
-
-pub fill_part-requires : goal.fill_part-requires
-fill_part-requires c = omega (arith, left (goal.at.fill_part-requires c).After-number-gain)
-
-pub loop-i-preserved : goal.loop-i-preserved
-loop-i-preserved c = let p = here (goal.at.loop-i-preserved c).After-number-gain in
-    let aim = runs-turn (words_of (goal.at.loop-i-preserved c).After-number-gain) c.loop-i.table c.loop-i.i c.loop-i.place p.within p.run_at p.gain-at in (
-      rw c.fill_part.ensures (aim ∙ c.loop-i.invariant.0),
-      omega (arith, left (goal.at.loop-i-preserved c).After-number-gain),
-      c.fill_part.auto.table ∙ c.loop-i.invariant.2,
-      omega arith,
+pub loop-k-preserved : goal.loop-k-preserved
+loop-k-preserved g c = let numbers = g.T.Element.numbers in
+    let ws = words c.args.src.now in
+    let k = c.loop-k.k in
+    let left = runs-left ws (2 * k) (omega arith) c.number-run.ensures in
+    let aim = runs-turn ws (numbers c.loop-k.table) (2 * k) c.loop-k.place (omega arith) c.number-run.ensures c.number.ensures in
+    rw (next-pair k) (
+      rw c.fill.ensures (aim ∙ c.loop-k.invariant.0),
+      omega (arith, left, c.loop-k.invariant.1),
+      rw c.fill.ensures (rw length-sets c.loop-k.invariant.2),
     )
 
 pub returns : goal.returns
-returns c = let args = c.args in
-    let few = words-few args.src.now args.from (c.loop-i.i + 1) (omega arith) in
-    rw (runs_done (words (drop args.from args.src.now)) c.loop-i.i few) at c.loop-i.invariant.0
+returns g c = let ws = words c.args.src.now in
+    rw (runs_done ws (2 * c.loop-k.k) (omega arith)) at c.loop-k.invariant.0
