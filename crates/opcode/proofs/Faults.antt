@@ -20,7 +20,7 @@ use Rattle.opcode.specs.Allowed.{Allowed}
 use Rattle.opcode.specs.Faults.{FieldOf, FirstFault}
 use Rattle.wire.proofs.Tests.{Among, Above, TestsTold, past-less, first-told, told}
 use Rattle.opcode.proofs.Accepts.{accepts}
-use Rattle.opcode.proofs.Accepts.Commands.{◌&◌, asks-span, asks-sized}
+use Rattle.opcode.proofs.Accepts.Commands.{◌&◌, asks_span, asks-sized}
 use Fields.{reached, stopped, FaultAt}
 use Commands.{read-before, read-wrong, write-before, write-at}
 
@@ -47,7 +47,7 @@ module _ {op o : ℕ} {d : List ℕ} (b : (k : ℕ) → get_or d k 0 < 256) (siz
   unfolding size_wrong value_fault
   right-before {j} m (FieldOf.asks r f) =
       let behind = rw r at m in
-      read-before f (reached (command_of op).asks (asks-sized op) d 0 j (omega (arith, asks-span op, read-long op o d r size)))
+      read-before f (reached (command_of op).asks (asks-sized op) d 0 j (omega (arith, asks_span op, read-long op o d r size)))
   right-before m (FieldOf.sets r f) = write-before b (rw r at size) (rw r at m) f
 
   wrong-at : unknown op ≡ false → value_fault op o d < length d → FaultAt op o d (value_fault op o d)
@@ -58,7 +58,7 @@ module _ {op o : ℕ} {d : List ℕ} (b : (k : ℕ) → get_or d k 0 < 256) (siz
             let inside = rw r at h in
             rw r
             (stopped (FaultAt op o d) (command_of op).asks d 0 (read-wrong o d b r op known)
-            (omega (arith, asks-span op, read-long op o d r size)))
+            (omega (arith, asks_span op, read-long op o d r size)))
         | no n ↦ let r : is_read o ≡ 0 = omega arith in rw r (write-at o d b r op known (rw r at size) (rw r at h))
       ]
 

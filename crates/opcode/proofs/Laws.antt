@@ -1,8 +1,8 @@
 -- What the loops keep: fields are passed one at a time, numbers of a list one or a stretch of them.
 use Prim.Native.Nat.{ℕ, zero, suc, ◌+◌, ◌*◌, ◌-◌, ◌≤◌, ◌<◌}
-use mathlib.Core.Path.{◌≡◌, refl, sym, ap, ◌∙◌}
+use mathlib.Core.Path.{◌≡◌, refl}
 use mathlib.Core.Bool.{Bool, true, false}
-use mathlib.Core.List.{List, [], ◌∷◌}
+use mathlib.Core.List.{List}
 use native.Mathlib.Decide.{dec_lt}
 use native.Mathlib.Nat.{mul-le-mul_left}
 use native.Mathlib.Numerals.{add-one}
@@ -12,10 +12,8 @@ use lib.ListN.{length, get_or, drop, drop_of_length-le}
 use lib.Seq.{drop-cons}
 use Rattle.wire.specs.Numbers.{word_at}
 use Rattle.opcode.specs.declared.Field.{Field}
-use Rattle.opcode.specs.Fields.{span, fault, takes, number, words_at, rise, rise_from}
-use Rattle.opcode.specs.Internal.{sent, RisenTo}
-use Rattle.opcode.proofs.Accepts.Fields.{least}
-use Rattle.opcode.proofs.Accepts.Commands.{asks-sized, sets-sized}
+use Rattle.opcode.specs.Fields.{from_to_but, span, fault, takes, number, words_at, rise, rise_from}
+use Rattle.opcode.specs.Internal.{RisenTo}
 
 -- How far m numbers from a place on rise (rule 5.5): the end; past one of them, or not; of the first k + 1 of them, whose fault is that of all, or which
 -- rise, so that the count goes on from the last.
@@ -99,49 +97,27 @@ module _ (d : List ℕ) (at count : ℕ) where
           let left : count - (i + k) ≡ count - i - k = omega arith in
           (omega arith, rw (here, left) (omega (arith, rise-past d k (at + 2 * i) (count - i) (omega arith) l)))
 
--- Fields, from the k-th on: each has bytes, and they end where their bytes do.
-sent-sized : (op : ℕ) (reads : Bool) → 0 < least (sent op reads)
-sent-sized op true = asks-sized op
-sent-sized op false = sets-sized op
+-- Fields, from the i-th on: there is one, whose number it takes or not; or none is left.
+abbrev pub field_at : List Field → ℕ → Field
+field_at fs i = get_or fs i (from_to_but 0 0 0 0 0)
 
-rest-sized : (fs : List Field) (k : ℕ) → 0 < least fs → 0 < least (drop k fs)
-rest-sized fs zero s = s
-rest-sized [] (suc k) s = s
-rest-sized (f ∷ fs) (suc k) s = rest-sized fs k (omega arith)
+module _ (fs : List Field) (i : ℕ) where
+  module _ (more : i < length fs) where
+    pub span-turn : span (drop i fs) ≡ (field_at fs i).size + span (drop (i + 1) fs)
+    span-turn = rw (add-one i, drop-cons fs i (from_to_but 0 0 0 0 0) more) refl
 
-spanless : (fs : List Field) → 0 < least fs → span fs ≡ 0 → fs ≡ []
-spanless [] s e = refl
-spanless (f ∷ fs) s e = absurd (omega arith)
+    module _ (d : List ℕ) (at : ℕ) {v : ℕ} {r : Bool} (there : v ≡ number (field_at fs i).size d at) (answer : r ≡ takes (field_at fs i) v) where
+      pub fault-turn : r ≡ true → fault (drop i fs) d at ≡ fault (drop (i + 1) fs) d (at + (field_at fs i).size)
+      unfolding fault
+      fault-turn t = rw (add-one i, drop-cons fs i (from_to_but 0 0 0 0 0) more, ← there, ← answer, t)
 
-module _ (op : ℕ) (reads : Bool) (k : ℕ) where
-  left-sized : 0 < least (drop k (sent op reads))
-  left-sized = rest-sized (sent op reads) k (sent-sized op reads)
+      pub fault-stop : r ≡ false → fault (drop i fs) d at ≡ at
+      unfolding fault
+      fault-stop t = rw (drop-cons fs i (from_to_but 0 0 0 0 0) more, ← there, ← answer, t)
 
-  pub fault-done : (d : List ℕ) (at : ℕ) → span (drop k (sent op reads)) ≡ 0 → fault (drop k (sent op reads)) d at ≡ at
+  pub fault-done : length fs ≤ i → (d : List ℕ) (at : ℕ) → fault (drop i fs) d at ≡ at
   unfolding fault
-  fault-done d at e = rw (spanless (drop k (sent op reads)) left-sized e)
-
-  -- f being the first of them.
-  module _ {f : Field} (field : f ≡ get_or (sent op reads) k f) (more : 0 < span (drop k (sent op reads))) where
-    fields-turn : drop k (sent op reads) ≡ f ∷ drop (k + 1) (sent op reads)
-    fields-turn =
-        elim (dec_lt k (length (sent op reads))) [
-          | yes h ↦ rw (add-one k) (drop-cons (sent op reads) k f h ∙ ap (λ g. g ∷ drop (suc k) (sent op reads)) (sym field))
-          | no h ↦ absurd (omega (arith, ap span (drop_of_length-le (sent op reads) {i = k} (omega arith))))
-        ]
-
-    pub span-turn : (0 < f.size) × (span (drop k (sent op reads)) ≡ f.size + span (drop (k + 1) (sent op reads)))
-    span-turn = let rest = rw fields-turn at left-sized in (omega arith, ap span fields-turn)
-
-    -- The number that stands in its place, and whether it takes it.
-    module _ (d : List ℕ) (at : ℕ) {v : ℕ} {r : Bool} (is : v ≡ number f.size d at) (answer : r ≡ takes f v) where
-      pub fault-turn : r ≡ true → fault (drop k (sent op reads)) d at ≡ fault (drop (k + 1) (sent op reads)) d (at + f.size)
-      unfolding fault
-      fault-turn t = rw (fields-turn, ← is, ← answer, t)
-
-      pub fault-stop : r ≡ false → fault (drop k (sent op reads)) d at ≡ at
-      unfolding fault
-      fault-stop t = rw (fields-turn, ← is, ← answer, t)
+  fault-done h d at = rw (drop_of_length-le fs {i = i} h)
 
 -- Two bytes multiplied.
 pub product : (m n : ℕ) → m < 256 → n < 256 → m * n < 65536

@@ -1,6 +1,8 @@
 -- Rule 5.1: the eighteen commands carried, as its table and rules 5.4 to 5.8 have them.
 use Rattle.std.specs.Prelude.{ℕ, cond, List, [], ◌∷◌, eqb}
 use Rattle.opcode.specs.declared.Field.{Field}
+use Rattle.opcode.specs.declared.Kind.{Kind}
+use Rattle.opcode.specs.declared.Kind.TheVariants.{NotCarried, Fixed, Varies}
 use Rattle.opcode.specs.declared.Row.{Row}
 use Rattle.opcode.specs.Fields.{byte, word, from_to, from_to_but}
 
@@ -112,6 +114,21 @@ unfoldable pub command_of : ℕ → Command
 command_of op = look_up op commands
 
 -- Rule 5.2: what the table of 256 rows says of an opcode.
-abbrev pub row_of : ℕ → Row
+pub record RowTold : Type 0 where
+  pub kind : ℕ
+  pub write : ℕ
+  pub read : ℕ
+  pub back : ℕ
+
+abbrev pub row_of : ℕ → RowTold
 row_of op =
     record { kind = (command_of op).kind; write = (command_of op).write; read = (command_of op).read; back = (command_of op).back }
+
+-- The number of each of the code's kinds, and the code's row as such a record.
+abbrev pub kind_number : Kind → ℕ
+kind_number NotCarried = not_carried
+kind_number Fixed = fixed
+kind_number Varies = variable
+
+abbrev pub told : Row → RowTold
+told r = record { kind = kind_number r.kind; write = r.write; read = r.read; back = r.back }

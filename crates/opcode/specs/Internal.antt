@@ -1,8 +1,7 @@
--- What only private functions of this crate need, and no rule: what a packed row stands for, the fields that a packet sends, and how lists are gone through.
-use Rattle.std.specs.Prelude.{ℕ, ◌+◌, ◌*◌, ◌-◌, ◌/◌, ◌%◌, ◌≤◌, ◌≡◌, Bool, cond, List}
-use Rattle.opcode.specs.declared.Field.{Field}
+-- What only private functions of this crate need, and no rule: what a packed row stands for, and how lists are gone through.
+use Rattle.std.specs.Prelude.{ℕ, ◌+◌, ◌*◌, ◌-◌, ◌/◌, ◌%◌, ◌≤◌, ◌≡◌, List}
 use Rattle.opcode.specs.Fields.{words_at, rise}
-use Rattle.opcode.specs.Commands.{Command, command_of}
+use Rattle.opcode.specs.Commands.{Command}
 
 -- A packed row has the command's kind and sizes, a hexadecimal digit each, the first the highest.
 pub record Sized (x : ℕ) (c : Command) : Type 0 where
@@ -11,9 +10,9 @@ pub record Sized (x : ℕ) (c : Command) : Type 0 where
   pub read : x / 16 % 16 ≡ c.read
   pub back : x % 16 ≡ c.back
 
--- The fields of a read's data, or of a write's.
-abbrev pub sent : ℕ → Bool → List Field
-sent op reads = cond reads (command_of op).asks (command_of op).sets
+-- The most bytes of a command's fields.
+abbrev pub most_span : ℕ
+most_span = 11
 
 -- The steps from one number to the next that the code compares in one go.
 abbrev pub stretch_steps : ℕ

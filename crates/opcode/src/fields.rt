@@ -1,216 +1,165 @@
 // The fields of each command's data, in packet order, and the first of them at fault.
-ghost use Rattle.std.specs.Prelude.{◌≡◌, ◌<◌, get_or};
-ghost use Rattle.opcode.specs.Fields.{«byte», «word», «from_to», «from_to_but», takes, span, «fault»};
+ghost use Rattle.std.specs.Prelude.{◌≡◌, ◌<◌, ◌≤◌};
+ghost use Rattle.opcode.specs.Fields.{takes, span, «fault»};
 ghost use Rattle.opcode.specs.Fields.{«number» as number_at};
 ghost use Rattle.opcode.specs.Commands.{command_of};
-ghost use Rattle.opcode.specs.Internal.{sent};
+ghost use Rattle.opcode.specs.Internal.{most_span};
 
 use super::{Field, limits};
 
-const FLAG: Field = Field {
-    size: 1,
-    low: 0,
-    high: 1,
-    gap: 0,
-    past: 0,
-};
-
-const ANY_WORD: Field = Field {
-    size: 2,
-    low: 0,
-    high: 65535,
-    gap: 0,
-    past: 0,
-};
-
-fn from_to_but(size: usize, low: usize, high: usize, gap: usize, past: usize) -> Field
-    ensures { result ≡ «from_to_but» size low high gap past }
-{
-    Field {
-        size,
-        low,
-        high,
-        gap,
-        past,
-    }
+// A field of so many bytes that takes the numbers from low to high; but for those from gap up to,
+// and not with, past.
+macro_rules! field {
+    ($size:expr, $low:expr, $high:expr) => {
+        field!($size, $low, $high, 0, 0)
+    };
+    ($size:expr, $low:expr, $high:expr, $gap:expr, $past:expr) => {
+        Field {
+            size: $size,
+            low: $low,
+            high: $high,
+            gap: $gap,
+            past: $past,
+        }
+    };
 }
 
-fn from_to(size: usize, low: usize, high: usize) -> Field
-    ensures { result ≡ «from_to» size low high }
-{
-    from_to_but(size, low, high, 0, 0)
-}
+const FLAG: Field = field!(1, 0, 1);
 
-fn byte(low: usize, high: usize) -> Field
-    ensures { result ≡ «byte» low high }
-{
-    from_to(1, low, high)
-}
+const ANY_WORD: Field = field!(2, 0, 65535);
 
-fn word(low: usize, high: usize) -> Field
-    ensures { result ≡ «word» low high }
-{
-    from_to(2, low, high)
-}
+const TRIGGER: Field = field!(1, 0, limits::MOST_TRIGGER);
 
-// The k-th field of a write's data, where there is one; if the write's size varies, of its fixed head.
-fn set_field(opcode: usize, k: usize) -> Field
-    ensures { result ≡ get_or (command_of opcode).sets k result }
-{
-    match opcode {
-        0x11 => byte(0, limits::MOST_DISPLAY),
-        0x13 => ANY_WORD,
-        0x1A => from_to_but(1, 0, limits::MOST_COLOUR, 1, 2),
-        0x1B => byte(0, 255),
-        0x1C => byte(0, limits::MOST_FLIP),
-        0x2B => gains_field(k),
-        0x34 => ANY_WORD,
-        0x35 => control_field(k),
-        0x38 => byte(limits::LEAST_SMOOTH, limits::MOST_SMOOTH),
-        0x60 => pin_field(k),
-        0x61 => pin_field(k),
-        0x65 => pwm_field(k),
-        0x6D => uart_field(k),
-        // 12h, 1Dh, 36h, 39h, 6Ch.
-        _ => FLAG,
-    }
-}
+const SMOOTH_COUNT: Field = field!(1, limits::LEAST_SMOOTH, limits::MOST_SMOOTH);
+
+static FLAGS: [Field; 1] = [FLAG];
+
+static DISPLAY: [Field; 1] = [field!(1, 0, limits::MOST_DISPLAY)];
+
+static WORDS: [Field; 1] = [ANY_WORD];
+
+static COLOUR: [Field; 1] = [field!(1, 0, limits::MOST_COLOUR, 1, 2)];
+
+static SPLASH: [Field; 1] = [field!(1, 0, 255)];
+
+static FLIP: [Field; 1] = [field!(1, 0, limits::MOST_FLIP)];
 
 // 2Bh: compression, colour, count, start.
-fn gains_field(k: usize) -> Field
-    ensures { result ≡ get_or (command_of 0x2B).sets k result }
-{
-    match k {
-        0 => FLAG,
-        1 => byte(0, 3),
-        2 => word(1, 65535),
-        _ => ANY_WORD,
-    }
-}
+static GAINS: [Field; 4] = [FLAG, field!(1, 0, 3), field!(2, 1, 65535), ANY_WORD];
 
 // 2Bh, a read: colour, start, count.
-fn gains_asked(k: usize) -> Field
-    ensures { result ≡ get_or (command_of 0x2B).asks k result }
-{
-    match k {
-        0 => byte(1, 3),
-        1 => ANY_WORD,
-        _ => word(1, 254),
-    }
-}
+static GAINS_ASKED: [Field; 3] = [field!(1, 1, 3), ANY_WORD, field!(2, 1, 254)];
 
 // 34h, a read: start, count.
-fn points_asked(k: usize) -> Field
-    ensures { result ≡ get_or (command_of 0x34).asks k result }
-{
-    match k {
-        0 => ANY_WORD,
-        _ => word(1, 127),
-    }
-}
+static POINTS_ASKED: [Field; 2] = [ANY_WORD, field!(2, 1, 127)];
 
 // 35h: mode, columns, rows.
-fn control_field(k: usize) -> Field
-    ensures { result ≡ get_or (command_of 0x35).sets k result }
-{
-    match k {
-        0 => FLAG,
-        1 => word(limits::LEAST_SHAPE, limits::MOST_COLUMNS),
-        _ => word(limits::LEAST_SHAPE, limits::MOST_ROWS),
-    }
-}
+static CONTROL: [Field; 3] = [
+    FLAG,
+    field!(2, limits::LEAST_SHAPE, limits::MOST_COLUMNS),
+    field!(2, limits::LEAST_SHAPE, limits::MOST_ROWS),
+];
 
-// 60h: pin, direction, level, drain; 61h: pin, level.
-fn pin_field(k: usize) -> Field
-    ensures { (result ≡ get_or (command_of 0x60).sets k result) × (result ≡ get_or (command_of 0x61).sets k result) }
-{
-    match k {
-        0 => byte(0, limits::MOST_PIN),
-        _ => FLAG,
-    }
-}
+// 38h: columns, rows.
+static SMOOTH: [Field; 2] = [SMOOTH_COUNT, SMOOTH_COUNT];
+
+// 60h: pin, direction, level, drain. 61h starts with pin and level.
+static PIN: [Field; 4] = [field!(1, 0, limits::MOST_PIN), FLAG, FLAG, FLAG];
 
 // 65h: port, frequency, duty, on.
-fn pwm_field(k: usize) -> Field
-    ensures { result ≡ get_or (command_of 0x65).sets k result }
-{
-    match k {
-        0 => from_to_but(1, 0, 13, 11, 13),
-        1 => from_to(4, limits::LEAST_FREQUENCY, limits::MOST_FREQUENCY),
-        2 => byte(0, limits::MOST_DUTY),
-        _ => FLAG,
-    }
-}
+static PWM: [Field; 4] = [
+    field!(1, 0, 13, 11, 13),
+    field!(4, limits::LEAST_FREQUENCY, limits::MOST_FREQUENCY),
+    field!(1, 0, limits::MOST_DUTY),
+    FLAG,
+];
 
 // 6Dh: port, on, baud, bits, stop, parity, flow, two triggers, polarity, source.
-fn uart_field(k: usize) -> Field
-    ensures { result ≡ get_or (command_of 0x6D).sets k result }
+static UART: [Field; 11] = [
+    field!(1, 0, 2),
+    FLAG,
+    field!(1, 0, limits::MOST_BAUD),
+    field!(1, 0, limits::MOST_BITS),
+    FLAG,
+    field!(1, 0, limits::MOST_PARITY),
+    FLAG,
+    TRIGGER,
+    TRIGGER,
+    FLAG,
+    FLAG,
+];
+
+// The fields of a write's data; if its size varies, of its fixed head.
+#[tactic(auto, unfolding(crate::specs::Commands::command_of))]
+pub(crate) fn sets(opcode: usize) -> &'static [Field]
+    ensures { (result.now ≡ (command_of opcode).sets) × (span result.now ≤ most_span) }
 {
-    match k {
-        0 => byte(0, 2),
-        1 => FLAG,
-        2 => byte(0, limits::MOST_BAUD),
-        3 => byte(0, limits::MOST_BITS),
-        4 => FLAG,
-        5 => byte(0, limits::MOST_PARITY),
-        6 => FLAG,
-        7 => byte(0, limits::MOST_TRIGGER),
-        8 => byte(0, limits::MOST_TRIGGER),
-        _ => FLAG,
+    match opcode {
+        0x11 => &DISPLAY,
+        0x12 | 0x1D | 0x36 | 0x39 | 0x6C => &FLAGS,
+        0x13 | 0x34 => &WORDS,
+        0x1A => &COLOUR,
+        0x1B => &SPLASH,
+        0x1C => &FLIP,
+        0x2B => &GAINS,
+        0x35 => &CONTROL,
+        0x38 => &SMOOTH,
+        0x60 => &PIN,
+        0x61 => &PIN[..2],
+        0x65 => &PWM,
+        0x6D => &UART,
+        _ => &[],
     }
 }
 
-// The k-th field of a read's data or of a write's, where there is one. But for two commands a read sends nothing, or the pin or port
-// that a write starts with. That set_field has one caller lets a compiler put it into the loop of fault.
-fn field_of(opcode: usize, reads: bool, k: usize) -> Field
-    ensures { result ≡ get_or (sent opcode reads) k result }
+// The fields of a read's data: but for two commands nothing, or the pin or port that a write
+// starts with.
+#[tactic(auto, unfolding(crate::specs::Commands::command_of))]
+pub(crate) fn asks(opcode: usize) -> &'static [Field]
+    ensures { (result.now ≡ (command_of opcode).asks) × (span result.now ≤ most_span) }
 {
-    if reads {
-        if opcode == 0x2B {
-            return gains_asked(k);
-        }
-        if opcode == 0x34 {
-            return points_asked(k);
-        }
+    match opcode {
+        0x2B => &GAINS_ASKED,
+        0x34 => &POINTS_ASKED,
+        0x60 | 0x61 => &PIN[..1],
+        0x65 => &PWM[..1],
+        0x6D => &UART[..1],
+        _ => &[],
     }
-    set_field(opcode, k)
 }
 
 // The number of one, two or four bytes at a place.
 fn number(data: &[u8], at: usize, size: usize) -> usize
     ensures { (result ≡ number_at size «data».now at) × (result < 4294967296) }
 {
-    if size == 1 {
-        return wire::byte(data, at);
+    match size {
+        1 => wire::byte(data, at),
+        2 => wire::word(data, at),
+        _ => wire::long(data, at),
     }
-    if size == 2 {
-        return wire::word(data, at);
-    }
-    wire::long(data, at)
 }
 
-// Whether a field takes a number.
-fn field_takes(f: Field, v: usize) -> bool
-    ensures { result ≡ takes f v }
-{
-    (f.low <= v) & (v <= f.high) & !((f.gap <= v) & (v < f.past))
+impl Field {
+    // Whether the field takes a number.
+    fn takes(self, v: usize) -> bool
+        ensures { result ≡ «takes» self v }
+    {
+        (self.low <= v) & (v <= self.high) & !((self.gap <= v) & (v < self.past))
+    }
 }
 
-// The place of the first field at fault among those of a read's data or of a write's, size bytes in all; size for none.
-pub(crate) fn fault(opcode: usize, reads: bool, size: usize, data: &[u8]) -> usize
-    requires { size ≡ span (sent opcode reads) }
-    ensures { result ≡ «fault» (sent opcode reads) «data».now 0 }
+// The place of the first field that does not take its number, the fields standing one behind the
+// other; the place behind the last field if each takes its own.
+pub(crate) fn fault(fields: &[Field], data: &[u8]) -> usize
+    requires { span fields.now ≤ most_span }
+    ensures { result ≡ «fault» fields.now «data».now 0 }
 {
     let mut at = 0;
-    let mut k = 0;
-    while at < size {
-        let f = field_of(opcode, reads, k);
-        let v = number(data, at, f.size);
-        if !field_takes(f, v) {
+    for field in fields {
+        if !field.takes(number(data, at, field.size)) {
             return at;
         }
-        at += f.size;
-        k += 1;
+        at += field.size;
     }
     at
 }

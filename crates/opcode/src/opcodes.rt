@@ -1,17 +1,12 @@
 // The table of all one-byte opcodes (rule 5.2).
-ghost use Rattle.std.specs.Prelude.{◌≡◌};
-ghost use Rattle.opcode.specs.Commands.{command_of, row_of};
+ghost use Rattle.std.specs.Prelude.{◌≡◌, ◌≤◌};
+ghost use Rattle.opcode.specs.Commands.{command_of, variable, row_of, told, kind_number};
 ghost use Rattle.opcode.specs.Internal.{Sized};
 
-use super::Row;
-
-// The kinds, beside 1 of a command whose sizes are fixed.
-pub(crate) const NOT_CARRIED: usize = 0;
-
-pub(crate) const VARIABLE: usize = 2;
+use super::{Kind, Row};
 
 // Row by row from opcode 00h on, a hexadecimal digit for each of kind and sizes in their order.
-const ROWS: [u16; 256] = [
+static ROWS: [u16; 256] = [
     0x0000, // 00h
     0x0000, 0x0000, 0x0000, 0x0000, 0x0000, 0x0000, 0x0000, 0x0000, 0x0000, 0x0000, 0x0000, 0x0000,
     0x0000, 0x0000, 0x0000, 0x0000, // 10h
@@ -62,14 +57,26 @@ const ROWS: [u16; 256] = [
 
 // The row of any opcode.
 pub fn row_at(opcode: usize) -> Row
-    ensures { result ≡ row_of opcode }
+    ensures { told result ≡ row_of opcode }
 {
     let x = packed_at(opcode);
     Row {
-        kind: (x / 0x1000 % 16) as usize,
+        kind: kind_of(x / 0x1000 % 16),
         write: (x / 0x0100 % 16) as usize,
         read: (x / 0x0010 % 16) as usize,
         back: (x % 16) as usize,
+    }
+}
+
+// The kind of a number that stands for one.
+fn kind_of(n: u16) -> Kind
+    requires { n ≤ variable }
+    ensures { kind_number result ≡ n }
+{
+    match n {
+        0 => Kind::NotCarried,
+        1 => Kind::Fixed,
+        _ => Kind::Varies,
     }
 }
 

@@ -44,14 +44,14 @@ of-carried P e op =
     of-each (λ op c. eqb c.kind not_carried ≡ false → P op) (λ op h. absurd (true≢false h)) (if-carried P commands e) op
 
 -- The sizes in the list are those of the fields.
-pub asks-span : (op : ℕ) → span (command_of op).asks ≡ (command_of op).read
-asks-span op = of-all (λ c. span c.asks ≡ c.read) refl (omega arith) op
+pub asks_span : (op : ℕ) → span (command_of op).asks ≡ (command_of op).read
+asks_span op = of-all (λ c. span c.asks ≡ c.read) refl (omega arith) op
 
 pub asks-sized : (op : ℕ) → 0 < least (command_of op).asks
 asks-sized op = of-all (λ c. 0 < least c.asks) (omega arith) (omega arith) op
 
-pub sets-span : (op : ℕ) → ((command_of op).kind ≡ variable → ⊥) → span (command_of op).sets ≡ (command_of op).write
-sets-span op = of-all (λ c. (c.kind ≡ variable → ⊥) → span c.sets ≡ c.write) (λ m. refl) (omega arith) op
+pub sets_span : (op : ℕ) → ((command_of op).kind ≡ variable → ⊥) → span (command_of op).sets ≡ (command_of op).write
+sets_span op = of-all (λ c. (c.kind ≡ variable → ⊥) → span c.sets ≡ c.write) (λ m. refl) (omega arith) op
 
 pub sets-sized : (op : ℕ) → 0 < least (command_of op).sets
 sets-sized op = of-all (λ c. 0 < least c.sets) (omega arith) (omega arith) op

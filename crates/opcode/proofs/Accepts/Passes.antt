@@ -13,7 +13,7 @@ use Rattle.opcode.specs.Commands.{command_of, fixed, variable}
 use Rattle.opcode.specs.Judgement.{judgement, unknown, lacks_length, size_wrong, variable_size_wrong, value_fault, variable_fault}
 use Rattle.wire.proofs.Tests.{Silent}
 use Rattle.opcode.proofs.Accepts.Fields.{Right, right-size, right-value, tests-right}
-use Rattle.opcode.proofs.Accepts.Commands.{sets-span, sets-sized}
+use Rattle.opcode.proofs.Accepts.Commands.{sets_span, sets-sized}
 
 -- 11 of a write: merge mode.
 abbrev pub named_write : ℕ → List ℕ → Bool
@@ -48,10 +48,10 @@ RightWrite op d = Right (command_of op).write (command_of op).sets d
 
 pub right-passes : {op : ℕ} {d : List ℕ} → (command_of op).kind ≡ fixed → RightWrite op d → named_write op d ≡ false → Passes op d
 right-passes {op} {d} m r n =
-    let span = sets-span op (omega arith) in
+    let span = sets_span op (omega arith) in
     record { size = rw m (right-size r); value = rw m (right-value span r); named_only = n }
 
 pub passes-right : (op : ℕ) (d : List ℕ) → (command_of op).kind ≡ fixed → Passes op d → RightWrite op d
 passes-right op d m p =
-    let span = sets-span op (omega arith) in
+    let span = sets_span op (omega arith) in
     tests-right (command_of op).write (command_of op).sets d (sets-sized op) span (rw m at p.size) (rw m at p.value)

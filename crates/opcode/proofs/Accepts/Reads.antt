@@ -14,7 +14,7 @@ use Rattle.opcode.specs.Allowed.{ReadData, SendsNothing, nothing, points, gains}
 use Rattle.wire.proofs.Tests.{Silent}
 use Rattle.opcode.proofs.Accepts.Fields.{All, Right, right-size, right-value, tests-right, shown}
 use Rattle.opcode.proofs.Accepts.Lists.{bytes_at, exactly}
-use Rattle.opcode.proofs.Accepts.Commands.{◌&◌, of-carried, asks-span, asks-sized}
+use Rattle.opcode.proofs.Accepts.Commands.{◌&◌, of-carried, asks_span, asks-sized}
 
 -- The data of a read is all fields.
 abbrev pub RightRead : ℕ → List ℕ → Type 0
@@ -22,12 +22,12 @@ RightRead op d = Right (command_of op).read (command_of op).asks d
 
 right-silent : (op o : ℕ) (d : List ℕ) → is_read o ≡ 1 → unknown op ≡ false → RightRead op d → Silent (judgement op o d)
 unfolding size_wrong value_fault judgement
-right-silent op o d h m r = (m, (rw h, (rw h (right-size r), (rw h (right-value (asks-span op) r), (rw h, tt)))))
+right-silent op o d h m r = (m, (rw h, (rw h (right-size r), (rw h (right-value (asks_span op) r), (rw h, tt)))))
 
 silent-right : (op o : ℕ) (d : List ℕ) → is_read o ≡ 1 → Silent (judgement op o d) → RightRead op d
 unfolding size_wrong value_fault judgement
 silent-right op o d h s =
-    tests-right (command_of op).read (command_of op).asks d (asks-sized op) (asks-span op) (rw h at s.1.1.0) (rw h at s.1.1.1.0)
+    tests-right (command_of op).read (command_of op).asks d (asks-sized op) (asks_span op) (rw h at s.1.1.0) (rw h at s.1.1.1.0)
 
 -- From the tests to the data, an opcode at a time.
 fields-only : (op : ℕ) → ((d : List ℕ) → All (command_of op).asks d 0 → ReadData op (bytes_at d 0 (command_of op).read))

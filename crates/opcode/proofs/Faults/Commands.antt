@@ -13,7 +13,7 @@ use Rattle.opcode.specs.Faults.{ReadField, WriteField, FieldOf}
 use Rattle.wire.proofs.Tests.{told}
 use Rattle.gain_words.proofs.Places.{run-range, gain-range}
 use Rattle.opcode.proofs.Accepts.Fields.{All, Within}
-use Rattle.opcode.proofs.Accepts.Commands.{◌&◌, of-carried, sets-span, sets-sized}
+use Rattle.opcode.proofs.Accepts.Commands.{◌&◌, of-carried, sets_span, sets-sized}
 use Rattle.opcode.proofs.Accepts.Passes.{write_size_wrong, write_fault}
 use Rattle.opcode.proofs.Faults.Fields.{up_to, reached, IfWrong, stopped, FaultAt, wrong, wrong-but}
 use Rattle.opcode.proofs.Faults.Varying.{smooth-before, smooth-at, gains-before, word-before, gains-at, mode-before, shape-before, column-before, row_before, control-at}
@@ -59,7 +59,7 @@ fixed-before : (op : ℕ) (d : List ℕ) (j : ℕ) → write_size_wrong op d ≡
     → (command_of op).kind ≡ fixed → All (up_to j (command_of op).sets) d 0
 fixed-before op d j size h m =
     let behind = rw m at h in
-    reached (command_of op).sets (sets-sized op) d 0 j (omega (arith, fixed-long op d m size, sets-span op (omega arith)))
+    reached (command_of op).sets (sets-sized op) d 0 j (omega (arith, fixed-long op d m size, sets_span op (omega arith)))
 
 module _ {d : List ℕ} (b : (k : ℕ) → get_or d k 0 < 256) where
   field-right : {op j v low high : ℕ} → WriteField d op j v low high → ((command_of op).kind ≡ fixed → All (up_to j (command_of op).sets) d 0)
@@ -120,7 +120,7 @@ module _ (o : ℕ) (d : List ℕ) (b : (k : ℕ) → get_or d k 0 < 256) (h : is
   fixed-at : (op : ℕ) → (command_of op).kind ≡ fixed → IfWrong (FaultAt op o d) (command_of op).sets d 0 → Found op
   fixed-at op m p s k =
       let inside = rw m at k in
-      rw m (stopped (FaultAt op o d) (command_of op).sets d 0 p (omega (arith, fixed-long op d m s, sets-span op (omega arith))))
+      rw m (stopped (FaultAt op o d) (command_of op).sets d 0 p (omega (arith, fixed-long op d m s, sets_span op (omega arith))))
 
   set : {op place v low high size : ℕ} → WriteField d op place v low high → ¬ Within (from_to size low high) v → FaultAt op o d place
   set f = wrong (FieldOf.sets h f)

@@ -16,7 +16,7 @@ returns-then-not-next_above c = let args = c.args in
     let p = args.at + 2 * i in
     let no : c.next_above.result ≡ false = search told in
     let down = ltb-false (word_at args.s.now p) (word_at args.s.now (p + 2)) (sym c.next_above.ensures ∙ no) in
-    omega (arith, risen-down args.s.now args.at (stretch_steps + 1) i c.loop-i.invariant.1 (omega arith) down)
+    omega (arith, risen-down args.s.now args.at (stretch_steps + 1) i c.loop-i.invariant (omega arith) down)
 
 pub loop-i-preserved : goal.loop-i-preserved
 loop-i-preserved c = let args = c.args in
@@ -24,8 +24,8 @@ loop-i-preserved c = let args = c.args in
     let p = args.at + 2 * i in
     let yes : c.next_above.result ≡ true = search told in
     let up = ltb-true (word_at args.s.now p) (word_at args.s.now (p + 2)) (sym c.next_above.ensures ∙ yes) in
-    (omega arith, risen-up args.s.now args.at (stretch_steps + 1) i c.loop-i.invariant.1 (omega arith) up)
+    risen-up args.s.now args.at (stretch_steps + 1) i c.loop-i.invariant (omega arith) up
 
 pub returns : goal.returns
 returns c = let args = c.args in
-    omega (arith, risen-end args.s.now args.at (stretch_steps + 1) c.loop-i.i c.loop-i.invariant.1 (omega arith))
+    omega (arith, risen-end args.s.now args.at (stretch_steps + 1) c.loop-i.i c.loop-i.invariant (omega arith))

@@ -1,10 +1,7 @@
--- The loop keeps that the numbers up to the i-th rise; the next one is the first fault, or is passed.
-use Prim.Native.Nat.{◌-◌}
+-- The numbers up to the one before the i-th rise.
+use Prim.Native.Nat.{◌-◌, ◌<◌}
 use Rattle.opcode.specs.Internal.{RisenTo}
 use Rattle.opcode.proofs.lists.walk.Given as goal
 
 abbrev pub invariant-loop-i : goal.invariant-loop-i
-invariant-loop-i l = RisenTo l.s l.at l.count l.i
-
-abbrev pub decreases-loop-i : goal.decreases-loop-i
-decreases-loop-i l = l.count - l.i
+invariant-loop-i l = (0 < l.i) × RisenTo l.s l.at l.count (l.i - 1)
