@@ -1,13 +1,16 @@
 -- Frames and what stands in them. The refusals of a command, which follow those of its frame, may be any list.
 use Prim.Native.Nat.{ℕ, ◌+◌, ◌-◌, ◌≤◌}
 use mathlib.Core.Path.{◌≡◌, refl, sym, ap, ◌∙◌}
-use mathlib.Core.Bool.{Bool, true, false, cond, not, ◌&&◌}
+use mathlib.Core.Bool.{Bool, true, false, cond}
 use mathlib.Core.List.{List, [], ◌∷◌, ◌++◌}
 use native.Mathlib.Omega.{arith}
-use borrow.Author.Tests.{ltb-false, eqb-true, eqb-false, eq-eqb}
+use borrow.Author.Tests.{ltb-false, eqb-true, eqb-false}
 use lib.ListN.{length, take, drop}
 use lib.Dec.{eqb}
 use Rattle.wire.specs.First.{first}
+use Rattle.wire.specs.declared.refusal.Refusal.{Refusal}
+use Rattle.wire.specs.declared.refusal.Refusal.TheVariants.{LentWrong, TooShort, TooLong, LengthDiffers, ChecksumDiffers, NotForUs, Unknown, LacksLength, SizeWrong, ValueWrong, NamedOnly, RunsPast}
+use Rattle.wire.specs.Refusals.{number_of}
 use Rattle.wire.proofs.Tests.{first-silent, first-left, first-right, none_both}
 use Rattle.opcode.specs.Judgement.{judgement, fault_place}
 use Rattle.packet.specs.Frame.{header_of, opcode_of, options_of, place, fields, data_size, data_of}
@@ -36,17 +39,7 @@ none_of a b c d e ts h =
     let silent = first-silent (rows a b c d e) (omega arith) both.0 in
     (record { no-2 = silent.0; no-3 = silent.1.0; no-4 = silent.1.1.0; no-5 = silent.1.1.1.0; no-6 = silent.1.1.1.1.0 }, both.1)
 
--- The tests of a frame, one by one.
-pub framed-by : (p : List ℕ) {a b c d e : Bool} → too_short p ≡ a → too_long p ≡ b → length_differs p ≡ c → checksum_differs p ≡ d
-    → elsewhere p ≡ e → framed p ≡ answered (first (rows a b c d e)) p
-unfolding framed
-framed-by p h i j k l = rw (h, i, j, k, l)
-
--- The length field's test, where a stand-in takes the place of a field that is not there.
-pub stand-in : (b : Bool) (w n v : ℕ) → v ≡ cond b w n → (b && not (eqb w n)) ≡ not (eqb v n)
-stand-in true w n v e = rw e
-stand-in false w n v e = rw (eq-eqb v n e)
-
+-- What stands in a packet, part by part.
 pub standing-as : (p : List ℕ) {op o at size : ℕ} → op ≡ opcode_of p → o ≡ options_of p → at ≡ place (header_of p) → size ≡ data_size p
     → command_at op o at size ≡ standing p
 standing-as p h i j k = rw (h, i, j, k)
@@ -145,3 +138,18 @@ judged-read p op o at size n f h e =
     e.1 ∙ ap (λ (n : ℕ). fault_place n op o (take (at + size - at) (drop at p))) (sym e.0) ∙ alike (fault_place n) s.same-opcode s.same-options there in
     ap (λ (f : ℕ). cond (eqb n 0) (command_at op o at size) (refused_by n f)) found
     ∙ ap (λ (a : Answer). cond (eqb n 0) a (refused_by n (fault_of n p))) (h ∙ ap (λ (n : ℕ). answered n p) s.none) ∙ ap (λ (n : ℕ). answered n p) number
+
+-- No refusal has the number 0.
+pub refusal-some : (why : Refusal) → eqb (number_of why) 0 ≡ false
+refusal-some LentWrong = refl
+refusal-some TooShort = refl
+refusal-some TooLong = refl
+refusal-some LengthDiffers = refl
+refusal-some ChecksumDiffers = refl
+refusal-some NotForUs = refl
+refusal-some Unknown = refl
+refusal-some LacksLength = refl
+refusal-some SizeWrong = refl
+refusal-some (ValueWrong place) = refl
+refusal-some NamedOnly = refl
+refusal-some RunsPast = refl

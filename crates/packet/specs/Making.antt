@@ -1,6 +1,8 @@
 -- Rule 4.4: making a packet from an opcode, options and data. It refuses what reading would refuse, so that nothing is sent
 -- that the front end does not read.
-use Rattle.std.specs.Prelude.{ℕ, ◌+◌, Bool, cond, List, [], ◌∷◌, ◌++◌, length, eqb, ltb}
+use Rattle.std.specs.Prelude.{ℕ, ◌+◌, Bool, cond, List, [], ◌∷◌, ◌++◌, length, eqb, ltb, Result, Ok, Err}
+use Rattle.wire.specs.declared.refusal.Refusal.{Refusal}
+use Rattle.wire.specs.Refusals.{status_of, fault_of}
 use Rattle.wire.specs.Numbers.{word_bytes}
 use Rattle.wire.specs.Checksum.{sealed}
 use Rattle.wire.specs.First.{first}
@@ -43,3 +45,11 @@ made_by n op o d buffer =
 unfoldable pub made : ℕ → ℕ → List ℕ → List ℕ → Made
 made op options d buffer =
     made_by (first (make_refusals op (options_in options) d (length buffer))) op (options_in options) d buffer
+
+-- The code's answer, and the buffer as it is left, as such a record: a refusal has the size 0.
+abbrev pub size_of : Result ℕ Refusal → ℕ
+size_of (Ok size) = size
+size_of (Err why) = 0
+
+abbrev pub made_told : Result ℕ Refusal → List ℕ → Made
+made_told r buffer = record { status = status_of r; fault-place = fault_of r; size = size_of r; buffer = buffer }

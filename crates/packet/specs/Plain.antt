@@ -1,9 +1,10 @@
 -- Rules 2.1 to 2.6, 4.4 and 4.6: what reading and making a packet promise, how many bytes a packet
 -- announces, and what a packet does to a map of N points; with the numbers themselves. Each promise
 -- holds of one outcome at most (proofs/Determined).
-use Rattle.std.specs.Prelude.{ℕ, ◌+◌, ◌-◌, ◌*◌, ◌/◌, ◌%◌, ◌≤◌, ◌<◌, ◌≡◌, ◌↔◌, true, List, [], ◌∷◌, ◌++◌, length, take, drop, get_or, replicate}
+use Rattle.std.specs.Prelude.{ℕ, ◌+◌, ◌-◌, ◌*◌, ◌/◌, ◌%◌, ◌≤◌, ◌<◌, ◌≡◌, ◌↔◌, true, List, [], ◌∷◌, ◌++◌, length, take, drop, get_or, replicate, Ok, Err}
 use Rattle.std.proofs.Math.Seq.{paste}
-use Rattle.wire.specs.declared.Refusal.{Refusal}
+use Rattle.wire.specs.declared.refusal.Refusal.{Refusal}
+use Rattle.wire.specs.Refusals.{number_of, place_of}
 use Rattle.wire.specs.Numbers.{byte_at, word_at}
 use Rattle.wire.specs.Tables.{words}
 use Rattle.wire.specs.Checksum.{checksum}
@@ -11,7 +12,6 @@ use Rattle.wire.specs.Plain.{Least, Bytes}
 use Rattle.opcode.specs.Options.{has_length, has_checksum, is_read, destination, options_in}
 use Rattle.opcode.specs.Faults.{FirstFault}
 use Rattle.opcode.specs.Plain.{CommandRefuses}
-use Rattle.packet.specs.declared.Reading.TheVariants.{Command, Refused}
 use Rattle.packet.specs.Frame.{header_of, opcode_of, options_of, length_place, place, fields, data_of}
 use Rattle.packet.specs.Reading.{Answer, reading, answer}
 use Rattle.packet.specs.Making.{packet_of, Made}
@@ -93,9 +93,9 @@ pub record Pinned : Type 0 where
   pub content : (p : List ℕ) → data_of p ≡ take (length p - fields (header_of p)) (drop (place (header_of p)) p)
   -- Number and values of each case of the code's answer.
   pub command-case : (op o at size : ℕ)
-      → answer (Command op o at size) ≡ record { number = 0; fault-place = 0; opcode = op; options = o; place = at; size = size }
+      → answer (Ok (record { opcode = op; options = o; at = at; size = size })) ≡ record { number = 0; fault-place = 0; opcode = op; options = o; place = at; size = size }
   pub refused-case : (why : Refusal)
-      → answer (Refused why) ≡ record { number = why.number; fault-place = why.place; opcode = 0; options = 0; place = 0; size = 0 }
+      → answer (Err why) ≡ record { number = number_of why; fault-place = place_of why; opcode = 0; options = 0; place = 0; size = 0 }
   pub read : (p : List ℕ) → Bytes p → ReadPlain p (reading p)
   -- Rules 2.1 and 2.5: behind these the checksum of them all, where there is one.
   pub packet : (op o : ℕ) (d : List ℕ) → packet_of op o d ≡ unsealed op o d ++ take (o / 32 % 2) (checksum (unsealed op o d) ∷ [])

@@ -1,13 +1,14 @@
 -- Rule 2.6: reading looks at the packet alone, and gives a command with its options and the place of its data, or a refusal.
-use Rattle.std.specs.Prelude.{ℕ, ◌-◌, Bool, cond, not, ◌&&◌, List, [], ◌∷◌, ◌++◌, length, take, eqb, ltb}
+use Rattle.std.specs.Prelude.{ℕ, ◌-◌, Bool, cond, not, ◌&&◌, List, [], ◌∷◌, ◌++◌, length, take, eqb, ltb, Result, Ok, Err}
+use Rattle.wire.specs.declared.refusal.Refusal.{Refusal}
+use Rattle.wire.specs.Refusals.{number_of, place_of}
 use Rattle.wire.specs.Numbers.{byte_at, word_at}
 use Rattle.wire.specs.Checksum.{checksum}
 use Rattle.wire.specs.First.{first}
 use Rattle.opcode.specs.Options.{has_length, has_checksum, destination}
 use Rattle.opcode.specs.Judgement.{judgement, fault_place}
 use Rattle.packet.specs.Frame.{header_of, opcode_of, options_of, length_place, place, fields, data_size, data_of}
-use Rattle.packet.specs.declared.Reading.{Reading}
-use Rattle.packet.specs.declared.Reading.TheVariants.{Command, Refused}
+use Rattle.packet.specs.declared.Command.{Command}
 
 -- Rule 4.1, 2: fewer bytes than the header announces; an empty packet has too few as well.
 abbrev pub too_short : List ℕ → Bool
@@ -73,6 +74,6 @@ unfoldable pub reading : List ℕ → Answer
 reading p = answered (first (refusals p)) p
 
 -- Number and values of each case of the code's answer.
-abbrev pub answer : Reading → Answer
-answer (Command opcode options at size) = command_at opcode options at size
-answer (Refused why) = refused_by why.number why.place
+abbrev pub answer : Result Command Refusal → Answer
+answer (Ok c) = command_at c.opcode c.options c.at c.size
+answer (Err why) = refused_by (number_of why) (place_of why)
