@@ -77,10 +77,6 @@ module _ (d gains : List ℕ) (place : ℕ) (here : place ≡ gains_place false 
   unfolding colour_into
   gains-three none = let start : place ≡ gains_start false d = omega arith in rw (none, start)
 
--- A read does not look at the live map.
-abbrev without_live : State → State
-without_live s = state s.block s.staged [] s.gains
-
 -- Options have the header's checksum bit.
 same_sum : (h o : ℕ) → o ≡ options_in h → has_checksum o ≡ has_checksum h
 same_sum h o e = omega arith
@@ -108,9 +104,9 @@ module _ (p : List ℕ) (s : State) (reply : List ℕ) (runs : stopped s reply �
     accepted : (decision p s.block).number ≡ 0
     accepted = sym (ap (λ (a : Answer). a.number) told)
 
-    -- A read's reply, which does not look at the live map, and a write's, as its step.
+    -- A read's reply, and a write's, as its step.
     pub answers-read : {n : ℕ} {answer : List ℕ} → is_read o ≡ 1
-        → Overwrites n (read_reply op o (take (at + size - at) (drop at p)) (without_live s)) reply answer
+        → Overwrites n (read_reply op o (take (at + size - at) (drop at p)) s) reply answer
         → out 0 0 n s answer ≡ step p s reply
     unfolding data_back
     answers-read r e =
