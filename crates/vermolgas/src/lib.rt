@@ -44,13 +44,15 @@ pub extern "C" fn vermolgas_packet(
     o.why.number as u64 + 256 * o.size as u64 + 4294967296 * o.why.place as u64
 }
 
-// How many rows are marked, and the lowest of them, of the mark as it lies.
+// How many rows are marked, and the lowest of them, of the mark as it lies. C is told 32 where none is.
 #[unsafe(no_mangle)]
 pub extern "C" fn vermolgas_rows(block: &[u8]) -> u64
     ensures { PackedRows block.now result }
 {
-    let r = front_end::mark::rows(block);
-    r.status as u64 + 256 * r.count as u64 + 65536 * r.lowest as u64
+    match front_end::mark::rows(block) {
+        Ok(rows) => 256 * rows.count as u64 + 65536 * rows.lowest.unwrap_or(32) as u64,
+        Err(why) => why.number() as u64,
+    }
 }
 
 // Reads a packet.
