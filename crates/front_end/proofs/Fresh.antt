@@ -1,22 +1,20 @@
 -- The rows that the code works out give the mark after the write; and what is told of a mark.
-use Prim.Native.Nat.{ℕ, ◌+◌, ◌-◌, ◌*◌, ◌/◌, ◌%◌, ◌^◌, ◌≤◌, ◌<◌}
+use Prim.Native.Nat.{ℕ, ◌+◌, ◌-◌, ◌*◌, ◌^◌, ◌≤◌, ◌<◌}
 use mathlib.Core.Path.{◌≡◌, refl, sym, ap, ◌∙◌}
-use mathlib.Core.Bool.{Bool, true, false, ◌&&◌}
-use mathlib.Core.List.{List, [], ◌∷◌, ◌++◌}
+use mathlib.Core.Bool.{Bool, true, false}
+use mathlib.Core.List.{List, [], ◌∷◌}
 use native.Mathlib.Decide.{ℕ_discrete, dec_lt}
 use native.Mathlib.Nat.{div-lt_iff_lt-mul, mul-le-mul_left, zero-div}
 use native.Mathlib.Omega.{arith}
-use borrow.Author.Tests.{eq-eqb, ne_eqb, lt-ltb, le-ltb, ltb-false}
+use borrow.Author.Tests.{ne_eqb, lt-ltb, le-ltb, ltb-false}
 use lib.ListN.{length, get_or}
-use lib.Seq.{sets, paste}
+use lib.Seq.{paste}
 use lib.Dec.{eqb}
 use Rattle.std.specs.Prelude.{Some, None}
 use Rattle.std.specs.Bool.{then_some}
 use Rattle.std.specs.Int.{to_le_bytes, w32}
-use Rattle.wire.specs.Numbers.{byte_at, word_bytes, long_at}
+use Rattle.wire.specs.Numbers.{byte_at, long_at}
 use Rattle.wire.specs.Tables.{long_bytes}
-use Rattle.wire.proofs.Laws.{sets-append}
-use Rattle.wire.proofs.Copies.{sets-paste}
 use Rattle.row_mark.specs.Bits.{bits_of, of_bits, count_true, first_true}
 use Rattle.row_mark.specs.Rows.{row_differs, row_moved, right_mark, refreshed}
 use Rattle.row_mark.proofs.Bits.{length-bits, bit-at, number-back, count_ones, first-set, count-few, first-few}
@@ -28,9 +26,9 @@ use Rattle.opcode.specs.Options.{is_read}
 use Rattle.opcode.specs.Allowed.{WriteData}
 use Rattle.packet.specs.Points.{start_of, count_of}
 use Rattle.front_end.specs.declared.mark.Fresh.{Fresh}
-use Rattle.front_end.specs.Mark.{mark_at, mark_bits, first_touched, last_touched, mark_after, marks, marked_block, RowsOut, rows_out, rows_told}
+use Rattle.front_end.specs.Mark.{mark_at, mark_bits, first_touched, last_touched, mark_after, marked_block, RowsOut, rows_out, rows_told}
 use Rattle.front_end.specs.Demands.{RowsPromised}
-use Rattle.front_end.specs.Internal.{Granted, MarkGranted, RowsNamed, fresh_of, rows_worked_out, FreshRows, RowsFresh}
+use Rattle.front_end.specs.Internal.{Granted, MarkGranted, RowsNamed, fresh_of, rows_worked_out, RowsFresh}
 use Rattle.front_end.specs.Commands.{block_after, runs_past}
 use Rattle.front_end.proofs.Bounds.{counts, write-data}
 use Rattle.front_end.proofs.InRange.{settings-stay}

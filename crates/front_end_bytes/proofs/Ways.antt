@@ -1,14 +1,13 @@
 -- Lent bytes: their lengths, and the numbers that they hold, which turn into bytes and back without
 -- loss; and the entries on them, from those on tables of any elements.
 use Prim.Native.Nat.{ℕ}
-use mathlib.Core.Path.{◌≡◌, refl, sym, ap, ◌∙◌}
+use mathlib.Core.Path.{◌≡◌, refl, ap, ◌∙◌}
 use mathlib.Core.Bool.{Bool, true, false}
 use mathlib.Core.List.{List}
 use native.Mathlib.Omega.{arith}
 use borrow.Author.Tests.{eq-eqb}
-use lib.ListN.{length}
 use Rattle.wire.proofs.Tests.{told}
-use Rattle.wire.specs.Tables.{words, bytes}
+use Rattle.wire.specs.Tables.{words}
 use Rattle.settings.specs.Reset.{map_size, gains_size}
 use Rattle.tables.proofs.Bytes.{Below, bytes-words, length-words-of}
 use Rattle.front_end.specs.State.{lengths_right}

@@ -10,7 +10,12 @@ use wire::Refusal;
 
 // Puts the block and all tables as they are after reset; a wrong length is refused, and nothing is
 // changed.
-pub fn reset(block: &mut [u8], staged: &mut [u8], live: &mut [u8], gains: &mut [u8]) -> Result<(), Refusal>
+pub fn reset(
+    block: &mut [u8],
+    staged: &mut [u8],
+    live: &mut [u8],
+    gains: &mut [u8],
+) -> Result<(), Refusal>
     ensures { ResetsBytes
         (lent block.old staged.old live.old gains.old)
         (lent_reset (status_of result) (lent block.new staged.new live.new gains.new)) }

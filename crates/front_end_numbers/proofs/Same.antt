@@ -1,7 +1,7 @@
 -- What is promised of tables of any elements is, of numbers as they are, what the rules say.
-use Rattle.std.proofs.Common.{ℕ, ◌≡◌, Bool, true, false, refl, sym, ap, ◌∙◌, List}
+use Rattle.std.proofs.Common.{ℕ, ◌≡◌, Bool, true, false, refl, sym, List}
 use Rattle.wire.specs.Elements.{themselves}
-use Rattle.front_end.specs.State.{State, stopped, reset, reset_out}
+use Rattle.front_end.specs.State.{stopped, reset, reset_out}
 use Rattle.front_end.specs.Step.{out, step}
 use Rattle.front_end.proofs.Steps.{step-stopped}
 use Rattle.front_end_tables.specs.Lent.{Lent, held, lengths_right, Handled, Reset}

@@ -11,7 +11,12 @@ use wire::Refusal;
 
 // Puts the block and all tables as they are after reset; a wrong length is refused, and nothing is
 // changed.
-pub fn reset(block: &mut [u8], staged: &mut [u16], live: &mut [u16], gains: &mut [u16]) -> Result<(), Refusal>
+pub fn reset(
+    block: &mut [u8],
+    staged: &mut [u16],
+    live: &mut [u16],
+    gains: &mut [u16],
+) -> Result<(), Refusal>
     ensures { Resets (state block.old staged.old live.old gains.old)
         (reset_out (status_of result) (state block.new staged.new live.new gains.new)) }
 {

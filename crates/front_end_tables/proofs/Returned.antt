@@ -1,6 +1,6 @@
 -- What is written over the start of a list: the bytes of a part that a read returns, and a whole
 -- table after reset.
-use Rattle.std.proofs.Common.{ℕ, ◌≡◌, ◌+◌, ◌*◌, ◌≤◌, ◌++◌, ◌∙◌, refl, sym, ap, arith, List, length, take, drop, length-drop}
+use Rattle.std.proofs.Common.{ℕ, ◌≡◌, ◌+◌, ◌*◌, ◌≤◌, ◌++◌, ◌∙◌, ap, arith, List, length, take, drop, length-drop}
 use native.Mathlib.Nat.{zero-add}
 use mathlib.Core.List.{append-nil}
 use lib.ListN.{drop_of_length-le, replicate, length-replicate}

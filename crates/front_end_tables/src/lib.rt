@@ -19,7 +19,9 @@ ghost use Rattle.front_end.specs.Internal.{Granted, PointsWrite, PointsRead, Gai
 ghost use Rattle.front_end_tables.specs.Held.{held, SameLists, FreshMark, Answered};
 ghost use Rattle.front_end_tables.specs.Lent.{lent, «lengths_right», Handled, Reset};
 
-use front_end::{COLOUR_GAINS, GAIN_ONE, GAINS_HEAD, GAINS_SIZE, MAP_SIZE, Outcome, POINTS_HEAD, REPLY_ROOM};
+use front_end::{
+    COLOUR_GAINS, GAIN_ONE, GAINS_HEAD, GAINS_SIZE, MAP_SIZE, Outcome, POINTS_HEAD, REPLY_ROOM,
+};
 use packet::Command;
 use row_mark::Map;
 use settings::layout::BLOCK_SIZE;
@@ -103,9 +105,9 @@ impl<'a, T: Table + Map> State<'a, T> {
     {
         if self.stops(reply) {
             return Outcome {
-            refused: Some(Refusal::LentWrong),
-            size: 0,
-        };
+                refused: Some(Refusal::LentWrong),
+                size: 0,
+            };
         }
         match self.decide(packet) {
             Ok(command) => self.perform(command, packet, reply),

@@ -1,5 +1,4 @@
 -- Lent lists are bytes, before and after, and stay as long.
-use Rattle.std.proofs.Common.{refl, ◌∙◌}
 use Rattle.front_end_bytes.specs.Bytes.{Lent, lent}
 use Rattle.front_end_bytes.proofs.Ways.{Small, stepped}
 use Rattle.front_end_bytes.proofs.Promises.{handled-bytes}

@@ -1,5 +1,4 @@
 -- The lists left are bytes, as many as they were.
-use Rattle.std.proofs.Common.{◌∙◌}
 use Rattle.front_end_bytes.specs.Bytes.{lent}
 use Rattle.front_end_bytes.proofs.Ways.{Small, put-back}
 use Rattle.front_end_bytes.proofs.Promises.{resets-bytes}

@@ -1,5 +1,5 @@
 -- Unless opcode and data say 36h with 1, live stays; else it is copied whole.
-use Rattle.std.proofs.Common.{◌≡◌, Bool, true, false, refl, ap, ◌∙◌, List, ℕ, nat_eq}
+use Rattle.std.proofs.Common.{◌≡◌, Bool, true, false, refl, ap, List, ℕ, nat_eq}
 use mathlib.Core.Bool.{◌&&◌, cond}
 use Rattle.front_end.specs.Commands.{apply_live}
 use Rattle.front_end_tables.proofs.apply.Goals as goal

@@ -1,5 +1,5 @@
 -- The gains sent are the words, or what the pairs stand for; they go over those from the place on.
-use Rattle.std.proofs.Common.{sym, ap, ◌∙◌, arith}
+use Rattle.std.proofs.Common.{sym, ap, ◌∙◌}
 use lib.Seq.{sets}
 use Rattle.wire.proofs.Copies.{sets-paste}
 use Rattle.front_end.specs.Commands.{gains_sent}

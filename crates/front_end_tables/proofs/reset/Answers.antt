@@ -1,8 +1,8 @@
 -- A wrong length changes nothing; else every byte and number is written.
-use Rattle.std.proofs.Common.{◌≡◌, sym, ◌∙◌, true, true≢false, arith, refl}
+use Rattle.std.proofs.Common.{sym, ◌∙◌, true≢false, arith, refl}
 use Rattle.settings.specs.Reset.{map_size, gains_size, reset_map, reset_gains}
-use Rattle.front_end_tables.specs.Lent.{Lent, lent, lengths_right}
-use Rattle.front_end_tables.proofs.Lengths.{Long, Counted, long, counted}
+use Rattle.front_end_tables.specs.Lent.{lent}
+use Rattle.front_end_tables.proofs.Lengths.{Counted, long, counted}
 use Rattle.front_end_tables.proofs.Returned.{filled}
 use Rattle.front_end_tables.proofs.reset.Given.{Over}
 use Rattle.front_end_tables.proofs.reset.Goals.{Else-not-lengths_right}

@@ -1,7 +1,7 @@
 -- The points of an accepted write lie within the map.
-use Rattle.std.proofs.Common.{◌*◌, ◌∙◌, arith, length}
+use Rattle.std.proofs.Common.{◌*◌, ◌∙◌, arith}
 use Rattle.wire.proofs.Copies.{sets-paste}
-use Rattle.packet.specs.Points.{points_of, start_of}
+use Rattle.packet.specs.Points.{points_of}
 use Rattle.front_end_tables.proofs.store_points.Goals as goal
 
 pub words_in-requires : goal.words_in-requires

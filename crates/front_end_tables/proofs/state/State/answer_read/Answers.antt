@@ -1,7 +1,5 @@
 -- The part behind the head is lent on for the data, which stays within it, and sealed where it stands.
 use Rattle.std.proofs.Common.{◌-◌, ◌≤◌, ◌∙◌, arith, length}
-use lib.Dec.{eqb}
-use Rattle.opcode.specs.Options.{has_checksum}
 use Rattle.reply.proofs.Laws.{lent-on}
 use Rattle.front_end.specs.State.{data_room}
 use Rattle.front_end.proofs.ReadBack.{back_fits}
@@ -26,5 +24,5 @@ returns g c = let args = c.args in
     let fetched = c.fetch-n.ensures in
     let n = fits g (goal.at.returns g c).After-fetch-n in
     let lent = rw (← fetched.0) at
-    (lent-on _ args.reply.now c.fetch-n.new.out (length args.reply.now - 3) (omega (arith, n)) (omega arith) fetched.1 (eqb (has_checksum args.command.options) 1) 0) in
-    (c.seal.ensures.0 ∙ lent.0, c.seal.ensures.1 ∙ lent.1)
+    (lent-on _ args.reply.now c.fetch-n.new.out (length args.reply.now - 3) (omega (arith, n)) (omega arith) fetched.1 c.has_checksum.result 0) in
+    rw (← c.header.ensures, ← c.has_checksum.ensures) (c.seal.ensures.0 ∙ lent.0, c.seal.ensures.1 ∙ lent.1)

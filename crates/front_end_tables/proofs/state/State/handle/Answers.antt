@@ -11,3 +11,9 @@ returns-then-stops-clause-outcome g c = sym (step-stopped _ _ _ (sym c.stops.ens
 
 pub perform-requires-clause-runs : goal.perform-requires-clause-runs
 perform-requires-clause-runs g c = sym c.stops.ensures ∙ c.if-stops.false
+
+pub refuse-requires : goal.refuse-requires
+refuse-requires g c = (decision-fault _ _ c.in-Err.ensures, (lent _ _ (sym c.stops.ensures ∙ c.if-stops.false)).room)
+
+pub returns-in-Err-clause-outcome : goal.returns-in-Err-clause-outcome
+returns-in-Err-clause-outcome g c = answers-refusal _ _ _ (sym c.stops.ensures ∙ c.if-stops.false) c.in-Err.ensures c.refuse.ensures

@@ -1,5 +1,4 @@
 -- The tests are those of refusal 1, where the lengths are right.
-use Rattle.std.proofs.Common.{sym, ap, ◌∙◌}
 use borrow.Author.Tests.{lt-leb, le-leb, lt-ltb}
 use Rattle.front_end.specs.State.{stopped}
 use Rattle.front_end_tables.proofs.Lengths.{held-right}
