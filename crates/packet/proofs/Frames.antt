@@ -153,3 +153,18 @@ refusal-some SizeWrong = refl
 refusal-some (ValueWrong place) = refl
 refusal-some NamedOnly = refl
 refusal-some RunsPast = refl
+
+-- Nor one above 12.
+pub refusal-few : (why : Refusal) → number_of why ≤ 12
+refusal-few LentWrong = omega arith
+refusal-few TooShort = omega arith
+refusal-few TooLong = omega arith
+refusal-few LengthDiffers = omega arith
+refusal-few ChecksumDiffers = omega arith
+refusal-few NotForUs = omega arith
+refusal-few Unknown = omega arith
+refusal-few LacksLength = omega arith
+refusal-few SizeWrong = omega arith
+refusal-few (ValueWrong place) = omega arith
+refusal-few NamedOnly = omega arith
+refusal-few RunsPast = omega arith
