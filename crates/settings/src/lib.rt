@@ -237,7 +237,7 @@ fn store_counting(block: &mut [u8], place: usize, n: usize)
 
 // The low byte of every PWM port's frequency.
 fn reset_frequencies(block: &mut [u8])
-    requires { length block.old ≡ block_size }
+    requires { pwm_place + pwm_size * pwm_count ≤ length block.old }
     ensures { block.new ≡ spread_over block.old pwm_place pwm_size 20 pwm_count }
 {
     for port in 0..PWM_COUNT {
