@@ -3,3 +3,4 @@ pub mod Pairs
 pub mod Plain
 pub mod Writing
 pub mod Internal
+pub mod Sending

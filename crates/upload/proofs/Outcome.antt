@@ -46,7 +46,7 @@ nothing : (number : ℕ) (s : PlanLists) → Nothing s (plan_out number 0 0 s)
 nothing number s = record { packets = refl; bytes = refl; plan = refl; room = refl; choices = refl; batch = refl }
 
 -- The tests of points and of lengths say what is right.
-points-tested : (n : ℕ) → (points_wrong n ≡ false) ↔ PointsRight n
+pub points-tested : (n : ℕ) → (points_wrong n ≡ false) ↔ PointsRight n
 points-tested n = (
   λ e.
       let none : n ≡ 0 → ⊥ = eqb-false n 0 (or_left _ _ e) in

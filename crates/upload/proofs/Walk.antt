@@ -159,19 +159,20 @@ module _ {w cs plan₀ batch₀ : List ℕ} (s : Site w cs plan₀ batch₀) whe
 
       -- The packet is in the plan and behind what was filled of the batch.
       pub walk_turn : {plan' batch' : List ℕ} {filled : ℕ} → plan' ≡ sets plan (2 * packets) (i ∷ count ∷ [])
-          → (filled ≡ size + (6 + 4 * count)) × (batch' ≡ sets batch size (packet_for w (part i count)))
+          → (filled ≡ size + length (packet_for w (part i count))) × (batch' ≡ sets batch size (packet_for w (part i count)))
           → Walking w cs plan₀ batch₀ plan' batch' (packets + 1) filled (i + count)
       unfolding cost
       walk_turn {plan'} {batch'} f (g, h) =
           let new = part i count in
+          let wide = (meant (length cs) w new s.wanted-long fits).size in
           record {
             parts = t.parts ++ (new ∷ []);
             rest = here ∙ sym (append_assoc t.parts (new ∷ []) _);
             many = rw length-append (omega (arith, t.many));
             few = omega (arith, t.few);
             within = fits.within;
-            costs = rw cost-append (omega (arith, t.costs));
-            long = rw (batch-next, length-append) (omega (arith, t.long, (meant (length cs) w new s.wanted-long fits).size));
+            costs = rw cost-append (omega (arith, t.costs, wide));
+            long = rw (batch-next, length-append) (omega (arith, t.long));
             planned = f ∙ rw (t.planned, numbers-next) (sets-sets plan₀ 0 (2 * packets) (plan_numbers t.parts) (i ∷ count ∷ []) (omega (arith, t.many, length-numbers t.parts)));
             batched = h ∙ rw (t.batched, batch-next) (sets-sets batch₀ 0 size (joined (map (packet_for w) t.parts)) (packet_for w new) (omega (arith, t.long)));
           }
