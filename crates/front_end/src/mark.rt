@@ -1,5 +1,5 @@
-// The row mark of the block (section 11): which rows an accepted write works out afresh, and what is
-// told of a mark.
+// The row mark of the block (section 11): which rows an accepted write works out afresh, and what
+// is told of a mark.
 ghost use Rattle.std.specs.Prelude.{◌≡◌, [], ◌∷◌, length};
 ghost use Rattle.std.proofs.Math.Seq.{paste};
 ghost use Rattle.wire.specs.Tables.{long_bytes};

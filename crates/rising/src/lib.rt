@@ -1,4 +1,5 @@
-// The rising test of 35h called alone, for measuring. The front end runs the same search on a packet.
+// The rising test of 35h called alone, for measuring. The front end runs the same search on a
+// packet.
 // This is a library, whose contract promises speaks of; rising_c makes the static library of it.
 #![tactic(auto)]
 

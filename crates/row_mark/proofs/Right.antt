@@ -1,7 +1,7 @@
 -- A mark is right bit by bit exactly if it is the right mark, of maps that hold the shape's points; then its count and its lowest row are those of the
 -- rows that moved.
 use Prim.Native.Nat.{ℕ, zero, suc, ◌+◌, ◌*◌, ◌/◌, ◌%◌, ◌≤◌, ◌<◌}
-use mathlib.Core.Path.{◌≡◌, refl, sym, subst, ◌∙◌}
+use mathlib.Core.Path.{◌≡◌, refl, sym, ap, subst, ◌∙◌}
 use mathlib.Core.Logic.{◌↔◌}
 use mathlib.Core.Bool.{Bool, true, false, ◌&&◌, true≢false}
 use mathlib.Core.List.{List, [], ◌∷◌}
@@ -14,10 +14,10 @@ use lib.ListN.{length, drop, get_or, length-take, length-drop}
 use lib.Seq.{get_or-take, get_or-drop}
 use lib.Dec.{eqb, ltb}
 use Rattle.row_mark.specs.Bits.{bits_of, bit_at, count_true, first_true}
-use Rattle.row_mark.specs.Rows.{differ, row_moved}
+use Rattle.row_mark.specs.Rows.{differ, row_moved, right_mark}
 use Rattle.row_mark.specs.Right.{Moved, RightFor, LowestMoved, MovedFrom, RowsCounted}
 use Rattle.row_mark.proofs.Bits.{bit-at, length-bits, first-few}
-use Rattle.row_mark.proofs.Rows.{row_of, row_room}
+use Rattle.row_mark.proofs.Rows.{row_of, each_at, row_room}
 
 -- ---- Rows that differ.
 
@@ -139,6 +139,17 @@ module _ (columns rows : ℕ) (staged live : List ℕ) (h : Holds columns rows s
       go : (b : Bool) → row_moved columns rows staged live r ≡ b → eqb (bit_at mark r) 1 ≡ row_moved columns rows staged live r
       go true e = rw e (eq-eqb (bit_at mark r) 1 (right.1 (moves r e)))
       go false e = rw e (ne_eqb (bit_at mark r) 1 (λ set. true≢false (sym (moved r (right.0 set)) ∙ e)))
+
+  -- All of it.
+  pub right-for : (mark : ℕ) → bits_of 32 mark ≡ right_mark columns rows staged live → RightFor columns rows staged live mark
+  right-for mark e =
+      record {
+        each =
+            λ r l.
+            let z : 0 + r ≡ r = omega arith in
+            row-right mark r
+            (sym (bit-at 32 mark r l) ∙ ap (λ (bs : List Bool). get_or bs r false) e ∙ (rw z at (each_at (row_moved columns rows staged live) 0 32 r l)));
+      }
 
 -- ---- How many rows, and the lowest, of a right mark.
 

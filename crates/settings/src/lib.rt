@@ -152,6 +152,7 @@ fn uart_port_in_range(block: &[u8], at: usize) -> bool
 }
 
 // The place of what a fixed command stores, from its data.
+#[tactic(auto, unfolding(crate::specs::Layout::place_of))]
 pub fn place_of(opcode: usize, data: &[u8]) -> usize
     ensures { (result ≡ «place_of» opcode «data».now) × (result ≤ 4096) }
 {
@@ -236,8 +237,9 @@ fn store_counting(block: &mut [u8], place: usize, n: usize)
 }
 
 // The low byte of every PWM port's frequency.
+#[tactic(auto, unfolding(crate::specs::Internal::spread_over))]
 fn reset_frequencies(block: &mut [u8])
-    requires { length block.old ≡ block_size }
+    requires { pwm_place + pwm_size * pwm_count ≤ length block.old }
     ensures { block.new ≡ spread_over block.old pwm_place pwm_size 20 pwm_count }
 {
     for port in 0..PWM_COUNT {
