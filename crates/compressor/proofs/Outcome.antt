@@ -1,22 +1,22 @@
 -- What the compressor promises, from what its code leaves: which refusal it gives, and that nothing changes then; else the pairs written are
 -- the fewest. Once for both families; each says what its tests mean.
-use Prim.Native.Nat.{ℕ, ◌*◌, ◌/◌, ◌%◌, ◌≤◌}
+use Prim.Native.Nat.{ℕ, zero, suc, ◌*◌, ◌/◌, ◌%◌, ◌≤◌}
 use mathlib.Core.Path.{◌≡◌, refl, sym, ap, subst, ◌∙◌}
 use mathlib.Core.Logic.{◌↔◌}
 use mathlib.Core.Bool.{Bool, true, false, cond, not, ◌||◌}
-use mathlib.Core.List.{List}
+use mathlib.Core.List.{List, [], ◌∷◌, ◌++◌, append_assoc}
 use native.Mathlib.Nat.{mul-le-mul_left}
 use native.Mathlib.Decide.{dec_lt}
 use native.Mathlib.Omega.{arith}
 use borrow.Author.Tests.{ltb-false, lt-ltb, le-ltb, le-leb, eq-eqb, ne_eqb}
-use lib.ListN.{length, drop, length-append, length-drop}
-use lib.Seq.{drop_at}
+use lib.ListN.{length, take, drop, length-append, length-drop, take-append-drop}
+use lib.Seq.{drop_at, length-take-le, drop-append-le}
 use lib.Dec.{eqb, ltb}
 use Rattle.wire.specs.First.{first}
 use Rattle.wire.specs.Tables.{words, bytes}
 use Rattle.wire.specs.Buffers.{over}
 use Rattle.wire.proofs.Laws.{take-over}
-use Rattle.wire.proofs.Tables.{length_pairs, pairs-over}
+use Rattle.wire.proofs.Tables.{length_pairs, pairs-over, halves-over}
 use Rattle.wire.proofs.Tests.{told}
 use Rattle.gain_words.specs.Gains.{first_large}
 use Rattle.gain_words.proofs.Right.{gains-small, small-gains}
@@ -24,6 +24,10 @@ use Rattle.compressor.specs.Compress.{compressed}
 use Rattle.compressor.specs.Plain.{CompressOut, Compressible, GainBytesRight, CompressPlain, CompressPlainNumbers, CompressPlainBytes}
 use Rattle.compressor.specs.Compressing.{compress_out, pairs_room, count_wrong, some_large, compress_refusals, byte_refusals, compressed_by, compressing, compressing_bytes, CompressedNumbers, numbers_in, CompressedBytes}
 use Rattle.compressor.specs.Internal.{refusals_of, PairsWritten}
+use Rattle.compressor.specs.declared.Refusal.{Refusal}
+use Rattle.compressor.specs.declared.Refusal.TheVariants.{GainsWrong, LentWrong}
+use Rattle.compressor.specs.Refusals.{number_of as code}
+use Rattle.tables.proofs.Bytes.{Below, bytes-words}
 use Rattle.compressor.proofs.Fewest.{compressed-two, compressed-length, fewest-pairs}
 use Rattle.compressor.proofs.Writing.{Way, as-numbers, as_bytes}
 
@@ -66,6 +70,16 @@ behind-over s room = drop_at s _ _ refl
 length_over : (s room : List ℕ) → length s ≤ length room → length (over s room) ≡ length room
 unfolding over
 length_over s room h = rw length-append (omega (arith, length-drop (length s) room))
+
+-- A refusal's number is none of what is taken.
+coded : (why : Refusal) → code why ≡ 0 → ⊥
+coded GainsWrong e = omega (arith, e)
+coded LentWrong e = omega (arith, e)
+
+below-front : (a b : List ℕ) → Below 256 (a ++ b) → Below 256 a
+below-front [] b h k = omega arith
+below-front (x ∷ a) b h zero = h 0
+below-front (x ∷ a) b h (suc k) = below-front a b (λ j. h (suc j)) k
 
 module _ {each : ℕ} {put read : List ℕ → List ℕ} (way : Way each put read) {right : Type 0} (gains room : List ℕ) (wrong : Bool)
     (tested : (wrong ≡ false) ↔ right) (can : right → Compressible gains) where
@@ -131,10 +145,10 @@ module _ (gains room : List ℕ) where
   abbrev pub refusal : ℕ
   refusal = first (compress_refusals gains (ltb (length room) pairs_room))
 
-  -- The code's number is this one.
-  pub asked : {number : ℕ} {large : Bool} → number ≡ first (refusals_of false (length gains) large (ltb (length room) pairs_room))
-      → large ≡ some_large gains → number ≡ refusal
-  asked e l = rw l at e
+  -- The code's number is this one: no number is half there.
+  asked : {number : ℕ} → number ≡ first (refusals_of (not (eqb (length gains % 1) 0)) (length gains) (some_large gains) (ltb (length room) pairs_room))
+      → number ≡ refusal
+  asked e = let whole : length gains % 1 ≡ 0 = omega arith in rw whole at e
 
   judged : refusal ≡ number_of wrong (ltb (length room) pairs_room)
   judged = tens false (count_wrong (length gains)) (some_large gains) _
@@ -156,14 +170,21 @@ module _ (gains room : List ℕ) where
             (promised as-numbers gains room wrong tested (λ r. r));
       }
 
-  pub refused : {number : ℕ} → number ≡ refusal → (number ≡ 0 → ⊥) → CompressedNumbers gains room (compress_out number 0 room)
+  pub refused : (why : Refusal)
+      → code why ≡ first (refusals_of (not (eqb (length gains % 1) 0)) (length gains) (some_large gains) (ltb (length room) pairs_room))
+      → CompressedNumbers gains room (compress_out (code why) 0 room)
   unfolding compressing
-  refused {number} e h = compressed-numbers (rw (← e, ne_eqb number 0 h))
+  refused why e = compressed-numbers (rw (← asked e, ne_eqb (code why) 0 (coded why)))
 
-  pub done : {pairs : ℕ} {left : List ℕ} → refusal ≡ 0 → PairsWritten (λ ws. ws) gains room pairs left
-      → CompressedNumbers gains room (compress_out 0 pairs left)
+  pub fitting : 0 ≡ first (refusals_of (not (eqb (length gains % 1) 0)) (length gains) (some_large gains) (ltb (length room) pairs_room))
+      → Compressible gains × (4032 ≤ length room)
+  fitting e = fit-numbers (sym (asked e))
+
+  pub done : {pairs : ℕ} {left : List ℕ}
+      → 0 ≡ first (refusals_of (not (eqb (length gains % 1) 0)) (length gains) (some_large gains) (ltb (length room) pairs_room))
+      → PairsWritten (λ ws. ws) gains room pairs left → CompressedNumbers gains room (compress_out 0 pairs left)
   unfolding compressing
-  done e w = compressed-numbers (rw (e, w.many, w.room-is))
+  done e w = compressed-numbers (rw (sym (asked e), w.many, w.room-is))
 
 -- On bytes.
 module _ (gains room : List ℕ) where
@@ -175,10 +196,6 @@ module _ (gains room : List ℕ) where
 
   abbrev pub refusal-bytes : ℕ
   refusal-bytes = first (byte_refusals gains room)
-
-  pub asked-bytes : {number : ℕ} {large : Bool} → number ≡ first (refusals_of odd (length gains / 2) large (ltb (length room) (2 * pairs_room)))
-      → large ≡ some_large (words gains) → number ≡ refusal-bytes
-  asked-bytes e l = rw (l, ← length_pairs 256 gains) at e
 
   judged-bytes : refusal-bytes ≡ number_of wrong-bytes (ltb (length room) (2 * pairs_room))
   judged-bytes = tens odd (count_wrong (length (words gains))) (some_large (words gains)) _
@@ -229,11 +246,32 @@ module _ (gains room : List ℕ) where
             (ap numbers_in e ∙ in-numbers refusal-bytes ∙ ap (λ (n : ℕ). compressed_by n (λ ws. ws) (words gains) (words room)) (same_number even));
       }
 
-  pub refused-bytes : {number : ℕ} → number ≡ refusal-bytes → (number ≡ 0 → ⊥) → CompressedBytes gains room (compress_out number 0 room)
+  pub refused-bytes : (why : Refusal) → code why ≡ refusal-bytes → CompressedBytes gains room (compress_out (code why) 0 room)
   unfolding compressing_bytes
-  refused-bytes {number} e h = compressed-bytes (rw (← e, ne_eqb number 0 h))
+  refused-bytes why e = compressed-bytes (rw (← e, ne_eqb (code why) 0 (coded why)))
 
-  pub done-bytes : {pairs : ℕ} {left : List ℕ} → refusal-bytes ≡ 0 → PairsWritten bytes (words gains) room pairs left
+  -- The first bytes of a room are those of the numbers that they hold.
+  module _ (whole : 8064 ≤ length room) (small : Below 256 room) (new : List ℕ) (kept : length new ≡ 8064) (small' : Below 256 (new ++ drop 8064 room))
+      {pairs : ℕ} (w : PairsWritten (λ ws. ws) (words gains) (words (take 8064 room)) pairs (words new)) where
+    pub written : PairsWritten bytes (words gains) room pairs (new ++ drop 8064 room)
+    unfolding over
+    written =
+        let front = take 8064 room in
+        let ws = compressed (words gains) in
+        let wide : length front ≡ 8064 = length-take-le 8064 room whole in
+        let small'' : Below 256 front = below-front front (drop 8064 room) (rw take-append-drop small) in
+        let here : new ≡ over (bytes ws) front =
+        sym (bytes-words new (omega arith) (below-front new (drop 8064 room) small')) ∙ ap bytes w.room-is
+        ∙ halves-over 256 ws (words front)
+        ∙ rw (bytes-words front (omega arith) small'') in
+        let inside : length (bytes ws) ≤ length front =
+        omega (arith, ap length here, length-append (bytes ws) (drop (length (bytes ws)) front), length-drop (length (bytes ws)) front) in
+        record {
+          many = w.many;
+          room-is = rw here (rw (append_assoc, ← drop-append-le (length (bytes ws)) front (drop 8064 room) inside, take-append-drop));
+        }
+
+  pub done-bytes : {pairs : ℕ} {left : List ℕ} → 0 ≡ refusal-bytes → PairsWritten bytes (words gains) room pairs left
       → CompressedBytes gains room (compress_out 0 pairs left)
   unfolding compressing_bytes
-  done-bytes e w = compressed-bytes (rw (e, w.many, w.room-is))
+  done-bytes e w = compressed-bytes (rw (sym e, w.many, w.room-is))

@@ -3,3 +3,4 @@ pub mod Plain
 pub mod Compress
 pub mod Compressing
 pub mod Internal
+pub mod Refusals

@@ -1,47 +1,117 @@
-// The compressor: gains into the fewest pairs of a run and a gain. Two families of the same names: gains and pairs as 16-bit numbers, and as their bytes.
+// The compressor: gains into the fewest pairs of a run and a gain. What it does stands here once,
+// whatever gains and pairs are made of; `numbers` and `bytes` are its two entries.
 #![tactic(auto)]
 
 pub mod bytes;
 pub mod numbers;
 
-ghost use Rattle.std.specs.Prelude.{◌≡◌, max};
+ghost use Rattle.std.specs.Prelude.{◌≡◌, [], ◌∷◌, ◌+◌, ◌*◌, ◌%◌, ◌≤◌, ◌<◌, not, length, drop, get_or, eqb, ltb};
+ghost use Rattle.std.proofs.lemmas.List.Edits.{sets};
 ghost use Rattle.wire.specs.First.{first};
-ghost use Rattle.compressor.specs.Compressing.{«count_wrong»};
-ghost use Rattle.compressor.specs.Internal.{refusals_of};
+ghost use Rattle.compressor.specs.Compressing.{pairs_room, «count_wrong», «some_large»};
+ghost use Rattle.compressor.specs.Internal.{lead, refusals_of, PairsWritten};
+ghost use Rattle.compressor.specs.Refusals.{number_of, status_of};
+
+use gain_words::{COLOUR_GAINS, MOST_GAIN};
+use tables::Table;
+use wire::Element;
 
 // The words that the pairs of any colour need.
 pub const PAIRS_ROOM: usize = 4032;
 
-// A status, the refusal's number or 0, and how many pairs were written, 0 if refused.
-#[derive(Clone, Copy)]
-pub struct Compressed {
-    pub status: u8,
-    pub pairs: usize,
+// Rule 10.2: why gains are refused: they are not those of a colour, or their room is short.
+#[derive(Clone, Copy, Debug, PartialEq, Eq)]
+pub enum Refusal {
+    GainsWrong,
+    LentWrong,
+}
+
+impl Refusal {
+    // Its number.
+    pub fn number(self) -> u8
+        ensures { result ≡ number_of self }
+    {
+        match self {
+            Refusal::GainsWrong => 10,
+            Refusal::LentWrong => 1,
+        }
+    }
 }
 
 // Whether a number of gains is none that a colour has.
 fn count_wrong(count: usize) -> bool
     ensures { result ≡ «count_wrong» count }
 {
-    !((1 <= count) & (count <= gain_words::COLOUR_GAINS))
+    !(1..=COLOUR_GAINS).contains(&count)
 }
 
-// The higher of two gains.
-fn higher(a: u16, b: u16) -> u16
-    ensures { result ≡ max a b }
+// Whether a gain is too large. Without an early return a compiler takes many gains at a time.
+fn some_large<T: Element>(gains: &[T]) -> bool
+    ensures { result ≡ «some_large» (T.numbers gains.now) }
 {
-    if a < b { b } else { a }
+    let mut most = 0;
+    for i in 0..T::count(gains) {
+        most = T::number(gains, i).max(most);
+    }
+    MOST_GAIN < most
 }
 
-// Refusal 10 for a byte over, for a wrong number of gains, and for a gain that is too large; then 1 for a short room, 0 for none of these.
-fn refusal(odd: bool, count: usize, large: bool, short: bool) -> u8
-    ensures { result ≡ first (refusals_of odd count large short) }
+// A byte over, a wrong number of gains, or one that is too large; then a room of too few elements.
+fn judge<T: Element>(gains: &[T], room: usize) -> Result<(), Refusal>
+    ensures { status_of result ≡ first (refusals_of
+        (not (eqb (length gains.now % T.WIDTH) 0))
+        (length (T.numbers gains.now)) («some_large» (T.numbers gains.now))
+        (ltb room (T.WIDTH * pairs_room))) }
 {
-    if odd | count_wrong(count) | large {
-        return 10;
+    let odd = gains.len() % T::WIDTH != 0;
+    if odd | count_wrong(T::count(gains)) | some_large(gains) {
+        return Err(Refusal::GainsWrong);
     }
-    if short {
-        return 1;
+    if room < T::WIDTH * PAIRS_ROOM {
+        return Err(Refusal::LentWrong);
     }
-    0
+    Ok(())
+}
+
+// How many gains from a place on are the one there.
+fn run_at<T: Element>(gains: &[T], at: usize, gain: u16) -> usize
+    requires { (at < length (T.numbers gains.now)) × (gain ≡ get_or (T.numbers gains.now) at 0) }
+    ensures { result ≡ lead gain (drop at (T.numbers gains.now)) }
+{
+    let n = T::count(gains);
+    for end in at + 1..n {
+        if T::number(gains, end) != gain {
+            return end - at;
+        }
+    }
+    n - at
+}
+
+// Stores pair k.
+fn put_pair<T: Table>(pairs: &mut [T], k: usize, run: usize, gain: u16)
+    requires { (2 * k + 1 < length (T.numbers pairs.old)) × (run < 65536) }
+    ensures { T.numbers pairs.new ≡ sets (T.numbers pairs.old) (2 * k) (run ∷ gain ∷ []) }
+{
+    T::put(pairs, 2 * k, run as u16);
+    T::put(pairs, 2 * k + 1, gain);
+}
+
+// Writes the pairs, a run a turn, and says how many they are.
+fn write<T: Table>(gains: &[T], pairs: &mut [T]) -> usize
+    requires { (length (T.numbers gains.now) < 65536)
+        × (2 * length (T.numbers gains.now) ≤ length (T.numbers pairs.old)) }
+    ensures { PairsWritten (λ ws. ws) (T.numbers gains.now) (T.numbers pairs.old)
+        result (T.numbers pairs.new) }
+{
+    let n = T::count(gains);
+    let mut i = 0;
+    let mut k = 0;
+    while i < n {
+        let gain = T::number(gains, i);
+        let run = run_at(gains, i, gain);
+        put_pair(pairs, k, run, gain);
+        i += run;
+        k += 1;
+    }
+    k
 }

@@ -1,5 +1,4 @@
 pub mod Cutting
 pub mod Determined
 pub mod Outcome
-pub mod Sums
 pub mod Writing

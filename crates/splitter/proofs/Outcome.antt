@@ -22,12 +22,22 @@ use Rattle.gain_words.proofs.Right.{fault-pairs, pairs-fault, pairs-even}
 use Rattle.splitter.specs.Split.{split_packets, split_batch}
 use Rattle.splitter.specs.Plain.{SplitOut, PairsRight, Splittable}
 use Rattle.splitter.specs.Splitting.{batch_room, split_out, values_wrong, split_refusals, splitting, SplitRight, SplitBytes}
-use Rattle.splitter.specs.Internal.{refusals_of, split_done}
+use Rattle.splitter.specs.Internal.{split_done}
+use Rattle.splitter.specs.declared.Refusal.{Refusal}
+use Rattle.splitter.specs.declared.Refusal.TheVariants.{WordOver, ValueWrong, RunsPast, LentWrong}
+use Rattle.splitter.specs.Refusals.{number_of as code}
 use Rattle.splitter.proofs.Cutting.{cut_up, cut-announced, split-small}
 
 -- A test that holds does not fail.
 both : {b : Bool} {A : Type 0} → b ≡ true → (A → b ≡ false) → A → ⊥
 both t f a = let z : ◌≡◌ {A = ℕ} 0 1 = cc (t, f a) in omega arith
+
+-- A refusal's number is none of what is taken.
+coded : (why : Refusal) → code why ≡ 0 → ⊥
+coded WordOver e = omega (arith, e)
+coded ValueWrong e = omega (arith, e)
+coded RunsPast e = omega (arith, e)
+coded LentWrong e = omega (arith, e)
 
 -- The tests say what is right.
 module _ (each : ℕ) (lent : List ℕ) where
@@ -159,14 +169,9 @@ module _ (each colour start : ℕ) (lent ws batch : List ℕ) where
   abbrev pub number : ℕ
   number = first (split_refusals colour start (odd each lent) ws batch)
 
-  pub judged : {status count fault : ℕ} {wrong past : Bool} → count ≡ length ws → fault ≡ pair_fault ws
-      → wrong ≡ (eqb count 0 || ltb 3 colour || ltb fault count) → past ≡ runs_beyond start ws
-      → status ≡ first (refusals_of (odd each lent) wrong past (ltb (length batch) batch_room)) → status ≡ number
-  judged c f w p s = s ∙ rw (w, c, f, p)
-
-  pub refuses : {status : ℕ} → status ≡ number → (status ≡ 0 → ⊥) → Right (split_out status 0 0 batch)
+  pub refuses : (why : Refusal) → code why ≡ number → Right (split_out (code why) 0 0 batch)
   unfolding splitting
-  refuses {status} e h = promised (rw (← e, ne_eqb status 0 h))
+  refuses why e = promised (rw (← e, ne_eqb (code why) 0 (coded why)))
 
   pub splits : {o : SplitOut} → number ≡ 0 → o ≡ split_done colour start ws batch → Right o
   unfolding splitting

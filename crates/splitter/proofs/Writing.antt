@@ -12,12 +12,15 @@ use Rattle.gain_words.proofs.Right.{pairs-even}
 use Rattle.gain_words.proofs.Expand.{sum-append}
 use Rattle.upload.specs.Plan.{joined}
 use Rattle.batch.specs.Pairs.{pairs_packet}
-use Rattle.batch.specs.Writing.{PairsPut}
 use Rattle.splitter.specs.Split.{packet_words, split_from, split_packets, split_batch}
 use Rattle.splitter.specs.Plain.{Splittable}
 use Rattle.splitter.specs.Splitting.{split_out}
 use Rattle.splitter.specs.Internal.{split_done}
 use Rattle.splitter.proofs.Cutting.{split-next, split-small, pairs-long}
+
+-- A part that is there is as long as it says.
+pub part-long : (l : List ℕ) (from n : ℕ) → from + n ≤ length l → length (take n (drop from l)) ≡ n
+part-long l from n h = simp (length-take, length-drop) (omega arith)
 
 module _ (colour start : ℕ) (ws batch₀ : List ℕ) where
   -- The packets that words from a start on give.
@@ -108,7 +111,7 @@ module _ (colour start : ℕ) (ws batch₀ : List ℕ) where
               few = omega (arith, c.packets-left, small.0);
             }
 
-        pub turned : {sum bytes' : ℕ} {batch' : List ℕ} → PairsPut batch bytes ws i n colour at bytes' batch' → sum ≡ sum_runs (take n l)
+        pub turned : {sum bytes' : ℕ} {batch' : List ℕ} → (bytes' ≡ bytes + length (pairs_packet colour at (take n l))) × (batch' ≡ sets batch bytes (pairs_packet colour at (take n l))) → sum ≡ sum_runs (take n l)
             → Cutting (at + sum) (packets + 1) bytes' (i + n) batch'
         unfolding joined
         turned {sum} {bytes'} {batch'} put s =
@@ -116,13 +119,14 @@ module _ (colour start : ℕ) (ws batch₀ : List ℕ) where
             let behind : List (List ℕ) = rest (at + sum_runs (take n l)) (drop n l) in
             let next : drop (i + n) ws ≡ drop n l = sym (drop-drop n i ws) in
             let left : sets batch bytes (p ++ joined behind) ≡ sets batch₀ 0 (joined (rest start ws)) = rw step at c.batch-left in
-            let place : bytes' ≡ bytes + length p = put.0 ∙ rw (pairs-long colour at (take n l), part-size) in
+            let place : bytes' ≡ bytes + length p = put.0 in
+            let wide : length p ≡ 10 + 2 * n = pairs-long colour at (take n l) ∙ rw part-size in
             record {
               within = omega arith;
               even = rw next (omega (arith, length-drop n l, left-long, c.even));
               runs-left = rw (next, s) (omega (arith, c.runs-left, sums));
               packets-left = rw (next, s) (omega (arith, c.packets-left, ap length step));
-              bytes_left = rw (next, s) (omega (arith, c.bytes_left, size, put.0));
+              bytes_left = rw (next, s) (omega (arith, c.bytes_left, size, place, wide));
               batch-left = rw (next, s, put.1, place) (sets-append batch bytes p (joined behind) ∙ left);
               long = rw put.1 (length-sets batch bytes p ∙ c.long);
             }

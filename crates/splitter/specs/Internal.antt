@@ -1,13 +1,9 @@
--- What contracts inside the crate need, and no rule: the tests that both families share, and what is answered where none holds.
-use Rattle.std.specs.Prelude.{ℕ, Bool, List, [], ◌∷◌, length}
+-- What contracts inside the crate need, and no rule: what is answered where nothing is refused.
+use Rattle.std.specs.Prelude.{ℕ, List, length}
 use Rattle.wire.specs.Buffers.{over}
 use Rattle.splitter.specs.Split.{split_packets, split_batch}
 use Rattle.splitter.specs.Splitting.{split_out}
 use Rattle.splitter.specs.Plain.{SplitOut}
-
--- The refusals: words that are no pairs, wrong values, runs past the colour, a short batch.
-abbrev pub refusals_of : Bool → Bool → Bool → Bool → List (ℕ × Bool)
-refusals_of odd wrong past short = (9, odd) ∷ (10, wrong) ∷ (12, past) ∷ (1, short) ∷ []
 
 -- The packets over the start of a batch.
 abbrev pub split_done : ℕ → ℕ → List ℕ → List ℕ → SplitOut

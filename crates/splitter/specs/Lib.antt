@@ -3,3 +3,4 @@ pub mod Plain
 pub mod Split
 pub mod Splitting
 pub mod Internal
+pub mod Refusals

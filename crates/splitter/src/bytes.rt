@@ -1,71 +1,17 @@
 // Pairs as their bytes, low byte first.
-ghost use Rattle.std.specs.Prelude.{◌≡◌, ◌+◌, ◌*◌, ◌%◌, ◌≤◌, length, take, drop};
-ghost use Rattle.wire.specs.Tables.{words};
-ghost use Rattle.gain_words.specs.Pairs.{colour_gains, sum_runs};
-ghost use Rattle.splitter.specs.Plain.{Splittable};
-ghost use Rattle.splitter.specs.Splitting.{batch_room, split_out, SplitBytes};
-ghost use Rattle.splitter.specs.Internal.{split_done};
+ghost use Rattle.batch.specs.Sending.{packets_of, bytes_of};
+ghost use Rattle.splitter.specs.Splitting.{SplitBytes};
+ghost use Rattle.splitter.specs.Refusals.{status_of};
 
-use super::{BATCH_ROOM, Split};
+use super::Refusal;
+use batch::Sent;
 
-// The sum of the runs of n words from a place on.
-fn runs_sum(pairs: &[u8], from: usize, n: usize) -> usize
-    requires { (2 * (from + n) ≤ length pairs.now)
-        × (sum_runs (take n (drop from (words pairs.now))) ≤ colour_gains) }
-    ensures { result ≡ sum_runs (take n (drop from (words pairs.now))) }
-{
-    let mut sum = 0;
-    let mut k = 0;
-    while k + 1 < n {
-        let j = 2 * (from + k);
-        sum += wire::number(pairs[j], pairs[j + 1]) as usize;
-        k += 2;
-    }
-    sum
-}
-
-// Writes the packets, one a turn: each starts where the runs of the one before ended.
-fn write(colour: usize, start: usize, pairs: &[u8], batch: &mut [u8]) -> Split
-    requires { Splittable colour start (words pairs.now)
-        × (batch_room ≤ length batch.old)
-        × (length pairs.now % 4 ≡ 0) }
-    ensures { split_out result.status result.packets result.bytes batch.new
-        ≡ split_done colour start (words pairs.now) batch.old }
-{
-    let count = pairs.len() / 2;
-    let mut at = start;
-    let mut packets = 0;
-    let mut bytes = 0;
-    let mut i = 0;
-    while i < count {
-        let n = super::next_words(count - i);
-        bytes = batch::bytes::put_pairs(batch, bytes, pairs, i, n, colour, at);
-        at += runs_sum(pairs, i, n);
-        packets += 1;
-        i += n;
-    }
-    Split {
-        status: 0,
-        packets,
-        bytes,
-    }
-}
-
-// Cuts pairs into packets for a colour, from a start on: any colour, any start, any pairs, any batch.
-pub fn split(colour: u32, start: u32, pairs: &[u8], batch: &mut [u8]) -> Split
+// Cuts pairs into packets for a colour, from a start on: any colour, any start, any pairs, any
+// batch.
+pub fn split(colour: u32, start: u32, pairs: &[u8], batch: &mut [u8]) -> Result<Sent, Refusal>
     ensures { SplitBytes colour start pairs.now batch.old
-        (record { status = result.status; packets = result.packets; bytes = result.bytes; batch = batch.new }) }
+        (record { status = status_of result; packets = packets_of result; bytes = bytes_of result; batch = batch.new }) }
 {
-    let fault = gain_words::bytes::pair_fault(pairs, 0);
-    let wrong = super::values_wrong(colour, pairs.len() / 2, fault);
-    let past = gain_words::bytes::runs_past(start as usize, pairs, 0);
-    let status = super::refusal(pairs.len() % 4 != 0, wrong, past, batch.len() < BATCH_ROOM);
-    if status != 0 {
-        return Split {
-            status,
-            packets: 0,
-            bytes: 0,
-        };
-    }
-    write(colour as usize, start as usize, pairs, batch)
+    super::judge(colour, start, pairs, batch)?;
+    Ok(super::write(colour as usize, start as usize, pairs, batch))
 }

@@ -1,13 +1,20 @@
-// The splitter: pairs of a run and a gain into 2Bh packets. Two families of the same names: pairs as 16-bit numbers, and as their bytes.
+// The splitter: pairs of a run and a gain into 2Bh packets. What it does stands here once, whatever
+// pairs are made of; `numbers` and `bytes` are its two entries.
 #![tactic(auto)]
 
 pub mod bytes;
 pub mod numbers;
 
-ghost use Rattle.std.specs.Prelude.{◌≡◌, ◌||◌, min, eqb, ltb};
+ghost use Rattle.std.specs.Prelude.{◌≡◌, ◌*◌, ◌%◌, ◌≤◌, not, length, eqb};
 ghost use Rattle.wire.specs.First.{first};
-ghost use Rattle.splitter.specs.Split.{packet_words};
-ghost use Rattle.splitter.specs.Internal.{refusals_of};
+ghost use Rattle.splitter.specs.Plain.{Splittable};
+ghost use Rattle.splitter.specs.Splitting.{batch_room, «values_wrong», split_refusals, split_out};
+ghost use Rattle.splitter.specs.Internal.{split_done};
+ghost use Rattle.splitter.specs.Refusals.{number_of, status_of};
+
+use batch::{Batch, Sent};
+use tables::Table;
+use wire::Element;
 
 // The words of a packet that is not the last.
 pub const PACKET_WORDS: usize = 250;
@@ -15,47 +22,95 @@ pub const PACKET_WORDS: usize = 250;
 // The bytes that hold any batch of packets.
 pub const BATCH_ROOM: usize = 8234;
 
-// A refusal's number or 0, how many packets there are, and how many bytes they have.
-#[derive(Clone, Copy)]
-pub struct Split {
-    pub status: u8,
-    pub packets: usize,
-    pub bytes: usize,
+// Rule 10.4, in its order: words that are no pairs, a colour, a run or a gain out of its range, runs
+// past the colour, a short batch.
+#[derive(Clone, Copy, Debug, PartialEq, Eq)]
+pub enum Refusal {
+    WordOver,
+    ValueWrong,
+    RunsPast,
+    LentWrong,
 }
 
-// Whether there are no words, the colour is over 3, or a word is at fault (the first of them stands before the end).
-fn values_wrong(colour: u32, words: usize, fault: usize) -> bool
-    ensures { result ≡ (eqb words 0 || ltb 3 colour || ltb fault words) }
-{
-    (words == 0) | (3 < colour) | (fault < words)
+impl Refusal {
+    // Its number.
+    pub fn number(self) -> u8
+        ensures { result ≡ number_of self }
+    {
+        match self {
+            Refusal::WordOver => 9,
+            Refusal::ValueWrong => 10,
+            Refusal::RunsPast => 12,
+            Refusal::LentWrong => 1,
+        }
+    }
 }
 
-// The number of the first refusal that applies, 0 for none.
-fn refusal(odd: bool, wrong: bool, past: bool, short: bool) -> u8
-    ensures { result ≡ first (refusals_of odd wrong past short) }
+// Whether there are no words, the colour is over 3, or a word is at fault (the first of them stands
+// before the end).
+fn values_wrong<T: Element>(colour: u32, pairs: &[T]) -> bool
+    ensures { result ≡ «values_wrong» colour (T.numbers pairs.now) }
 {
-    if odd {
-        return 9;
-    }
-    if wrong {
-        return 10;
-    }
-    if past {
-        return 12;
-    }
-    if short {
-        return 1;
-    }
-    0
+    let words = T::count(pairs);
+    (words == 0) | (3 < colour) | (gain_words::pair_fault(pairs) < words)
 }
 
-// The words of the next packet, where so many are left.
-fn next_words(left: usize) -> usize
-    ensures { result ≡ min packet_words left }
+// The first refusal that applies.
+fn judge<T: Element>(colour: u32, start: u32, pairs: &[T], batch: &[u8]) -> Result<(), Refusal>
+    ensures { status_of result ≡ first (split_refusals colour start
+        (not (eqb (length pairs.now % (2 * T.WIDTH)) 0)) (T.numbers pairs.now) batch.now) }
 {
-    if left < PACKET_WORDS {
-        left
-    } else {
-        PACKET_WORDS
+    if pairs.len() % (2 * T::WIDTH) != 0 {
+        return Err(Refusal::WordOver);
     }
+    if values_wrong(colour, pairs) {
+        return Err(Refusal::ValueWrong);
+    }
+    if gain_words::runs_past(start as usize, pairs) {
+        return Err(Refusal::RunsPast);
+    }
+    if batch.len() < BATCH_ROOM {
+        return Err(Refusal::LentWrong);
+    }
+    Ok(())
+}
+
+// Writes the packets, one a turn: each starts where the runs of the one before ended.
+fn cut<T: Table>(colour: usize, start: usize, pairs: &[T], batch: &mut Batch) -> Sent
+    requires { Splittable colour start (T.numbers pairs.now)
+        × (batch_room ≤ length batch.old.buffer.now)
+        × (batch.old.filled ≡ 0) }
+    ensures written { split_out 0 result.packets result.bytes batch.new.buffer.now
+        ≡ split_done colour start (T.numbers pairs.now) batch.old.buffer.now }
+    ensures named { batch.new.buffer.ghost_name ≡ batch.old.buffer.ghost_name }
+{
+    let words = T::count(pairs);
+    let mut at = start;
+    let mut packets = 0;
+    let mut i = 0;
+    while i < words {
+        let n = PACKET_WORDS.min(words - i);
+        let part = wire::part(pairs, i, n);
+        batch.put_pairs(part, colour, at);
+        at += gain_words::runs_sum(part);
+        packets += 1;
+        i += n;
+    }
+    Sent {
+        packets,
+        bytes: batch.filled,
+    }
+}
+
+// The same from the start of a buffer on.
+fn write<T: Table>(colour: usize, start: usize, pairs: &[T], batch: &mut [u8]) -> Sent
+    requires { Splittable colour start (T.numbers pairs.now) × (batch_room ≤ length batch.old) }
+    ensures { split_out 0 result.packets result.bytes batch.new
+        ≡ split_done colour start (T.numbers pairs.now) batch.old }
+{
+    let mut batch = Batch {
+        buffer: batch,
+        filled: 0,
+    };
+    cut(colour, start, pairs, &mut batch)
 }

@@ -1,14 +1,18 @@
--- A refusal changes nothing; else the pairs are written. The law on the outcome makes the promise of each.
-use mathlib.Core.Path.{◌≡◌, sym, ◌∙◌}
-use Rattle.compressor.proofs.Outcome.{asked, refusal, refused, done}
-use Rattle.compressor.proofs.numbers.compress.Goals.{After-refusal-status}
+-- A refusal changes nothing; else the pairs are written. The law on the outcome makes the promise of
+-- each.
+use Rattle.std.proofs.Common.{rules, ◌≡◌, Err, arith}
+use Rattle.compressor.proofs.Outcome.{refused, fitting, done}
 use Rattle.compressor.proofs.numbers.compress.Goals as goal
 
-judged : (c : After-refusal-status) → c.refusal-status.result ≡ refusal c.args.gains.now c.args.pairs.now
-judged c = asked c.args.gains.now c.args.pairs.now c.refusal-status.ensures c.some_large-large.ensures
+pub returns-in_err-judge : goal.returns-in_err-judge
+returns-in_err-judge c =
+    let same : c.from_residual.result ≡ Err c.in_err-judge.field-0.0 = search rules in
+    rw same (refused c.args.gains.now c.args.pairs.now c.in_err-judge.field-0.0 c.in_err-judge.ensures)
 
-pub returns-then-status-ne0 : goal.returns-then-status-ne0
-returns-then-status-ne0 c = refused _ _ (judged (goal.at.returns-then-status-ne0 c).After-refusal-status) c.if-status-ne0.true
+pub write-requires : goal.write-requires
+write-requires c =
+    let fits = fitting c.args.gains.now c.args.pairs.now c.in_ok-judge.ensures in
+    (omega (arith, fits.0.few), omega (arith, fits.0.few, fits.1))
 
 pub returns : goal.returns
-returns c = done _ _ (sym (judged (goal.at.returns c).After-refusal-status) ∙ c.if-status-ne0.false) c.write-written.ensures
+returns c = done c.args.gains.now c.args.pairs.now c.in_ok-judge.ensures c.write.ensures
