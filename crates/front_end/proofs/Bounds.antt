@@ -99,7 +99,7 @@ same-past : (p block : List ℕ) (op o : ℕ) (d : List ℕ) → op ≡ opcode_o
 same-past p block op o d e f g = rw (e, f, g)
 
 pub command-placed : (p block : List ℕ) (op o at size : ℕ) (past : Bool) → command_at op o at size ≡ reading p
-    → past ≡ runs_past op (eqb (is_read o) 1) (take (at + size - at) (drop at p)) block
+    → past ≡ runs_past op (eqb (is_read o) 1) (take size (drop at p)) block
     → cond past (refused_by 12 0) (command_at op o at size) ≡ decision p block
 unfolding reading decision
 command-placed p block op o at size past h e =
@@ -108,10 +108,9 @@ command-placed p block op o at size past h e =
     let same_read = read-options (header_of p) o (ap (λ (a : Answer). a.options) z.1) in
     let same_place = ap (λ (a : Answer). a.place) z.1 in
     let same_size = ap (λ (a : Answer). a.size) z.1 in
-    let long : at + size - at ≡ data_size p = omega arith in
-    let there : take (at + size - at) (drop at p) ≡ data_of p = rw (long, same_place) in
+    let there : take size (drop at p) ≡ data_of p = rw (same_size, same_place) in
     let told : past ≡ runs_past (opcode_of p) (reads p) (data_of p) block =
-    e ∙ same-past p block op o (take (at + size - at) (drop at p)) same-opcode same_read there in
+    e ∙ same-past p block op o (take size (drop at p)) same-opcode same_read there in
     let number : first (read_and_placed p block) ≡ cond past 12 0 = placed_first p block ∙ rw (z.0, told) in
     go past z.1 ∙ ap (λ (k : ℕ). answered k p) (sym number)
   where

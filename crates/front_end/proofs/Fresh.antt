@@ -1,19 +1,20 @@
 -- The rows that the code works out give the mark after the write; and what is told of a mark.
-use Prim.Native.Nat.{ℕ, ◌+◌, ◌-◌, ◌*◌, ◌/◌, ◌%◌, ◌^◌, ◌≤◌, ◌<◌}
+use Prim.Native.Nat.{ℕ, ◌+◌, ◌-◌, ◌*◌, ◌^◌, ◌≤◌, ◌<◌}
 use mathlib.Core.Path.{◌≡◌, refl, sym, ap, ◌∙◌}
-use mathlib.Core.Bool.{Bool, true, false, ◌&&◌}
-use mathlib.Core.List.{List, [], ◌∷◌, ◌++◌}
+use mathlib.Core.Bool.{Bool, true, false}
+use mathlib.Core.List.{List, [], ◌∷◌}
 use native.Mathlib.Decide.{ℕ_discrete, dec_lt}
 use native.Mathlib.Nat.{div-lt_iff_lt-mul, mul-le-mul_left, zero-div}
 use native.Mathlib.Omega.{arith}
 use borrow.Author.Tests.{ne_eqb, lt-ltb, le-ltb, ltb-false}
 use lib.ListN.{length, get_or}
-use lib.Seq.{sets, paste}
+use lib.Seq.{paste}
 use lib.Dec.{eqb}
-use Rattle.wire.specs.Numbers.{byte_at, word_bytes, long_at}
+use Rattle.std.specs.Prelude.{Some, None}
+use Rattle.std.specs.Bool.{then_some}
+use Rattle.std.specs.Int.{to_le_bytes, w32}
+use Rattle.wire.specs.Numbers.{byte_at, long_at}
 use Rattle.wire.specs.Tables.{long_bytes}
-use Rattle.wire.proofs.Laws.{sets-append}
-use Rattle.wire.proofs.Copies.{sets-paste}
 use Rattle.row_mark.specs.Bits.{bits_of, of_bits, count_true, first_true}
 use Rattle.row_mark.specs.Rows.{row_differs, row_moved, right_mark, refreshed}
 use Rattle.row_mark.proofs.Bits.{length-bits, bit-at, number-back, count_ones, first-set, count-few, first-few}
@@ -25,7 +26,7 @@ use Rattle.opcode.specs.Options.{is_read}
 use Rattle.opcode.specs.Allowed.{WriteData}
 use Rattle.packet.specs.Points.{start_of, count_of}
 use Rattle.front_end.specs.declared.mark.Fresh.{Fresh}
-use Rattle.front_end.specs.Mark.{mark_at, mark_bits, first_touched, last_touched, mark_after, marks, marked_block, RowsOut, rows_out, rows_told}
+use Rattle.front_end.specs.Mark.{mark_at, mark_bits, first_touched, last_touched, mark_after, marked_block, RowsOut, rows_out, rows_told}
 use Rattle.front_end.specs.Demands.{RowsPromised}
 use Rattle.front_end.specs.Internal.{Granted, MarkGranted, RowsNamed, fresh_of, rows_worked_out, RowsFresh}
 use Rattle.front_end.specs.Commands.{block_after, runs_past}
@@ -46,15 +47,7 @@ last_row {d} {block} g =
     let below : start_of d + count_of d - 1 < rows_at block staged_shape * columns_at block staged_shape = omega (arith, p.0, p.1) in
     (div-lt_iff_lt-mul {k = columns_at block staged_shape} (omega (arith, c.columns-some))).1 below
 
--- A result by its parts.
-fresh-by : (r : Fresh) {changes : Bool} {mark first end columns : ℕ} → r.changes ≡ changes → r.mark ≡ mark → r.first ≡ first → r.end ≡ end
-    → r.columns ≡ columns → r ≡ fresh_of changes mark first end columns
-fresh-by r a b c d e = joined a b c d e
-  where
-    joined : {x x' : Bool} {m m' f f' e e' n n' : ℕ} → x ≡ x' → m ≡ m' → f ≡ f' → e ≡ e' → n ≡ n' → fresh_of x m f e n ≡ fresh_of x' m' f' e' n'
-    joined a b c d e = cc
-
-pub touched-fresh : {d block : List ℕ} {r : Fresh} → MarkGranted 0x34 d block → RowsNamed d block r → RowsFresh 0x34 d block r
+pub touched-fresh : {d block : List ℕ} {r : Fresh} → MarkGranted 0x34 d block → RowsNamed d block r → RowsFresh 0x34 d block (Some r)
 unfolding mark_after rows_worked_out
 touched-fresh {d} {block} {r} g n =
     let c = counts block g.settings in
@@ -62,15 +55,21 @@ touched-fresh {d} {block} {r} g n =
     let rows : ℕ = rows_at block staged_shape in
     let last = last_row g in
     record {
-      outcome = fresh-by r n.changes n.mark n.first n.end n.columns;
-      changes = n.changes;
-      few = omega (arith, n.end, last, c.rows);
-      room = rw (n.columns, n.end) (omega (arith, mul-le-mul_left columns last, c.points));
-      whole = λ z staged live.
-          rw (n.columns, n.first, n.end, n.mark)
-          (refreshed-same (row_moved columns rows staged live) (row_differs columns staged live) (first_touched columns d) (last_touched columns d + 1 - first_touched columns d) (mark_bits block)
-          (λ k from to. within-shape columns rows staged live k (omega (arith, last))));
+      outcome = joined n.mark n.first n.end n.columns;
+      changes = refl;
+      rows =
+          record {
+            few = omega (arith, n.end, last, c.rows);
+            room = rw (n.columns, n.end) (omega (arith, mul-le-mul_left columns last, c.points));
+            whole = λ staged live.
+                rw (n.columns, n.first, n.end, n.mark)
+                (refreshed-same (row_moved columns rows staged live) (row_differs columns staged live) (first_touched columns d) (last_touched columns d + 1 - first_touched columns d) (mark_bits block)
+                (λ k from to. within-shape columns rows staged live k (omega (arith, last))));
+          };
     }
+  where
+    joined : {m m' f f' e e' n n' : ℕ} → m ≡ m' → f ≡ f' → e ≡ e' → n ≡ n' → Some (fresh_of m f e n) ≡ Some (fresh_of m' f' e' n')
+    joined a b c d = cc
 
 -- ---- 35h.
 
@@ -92,44 +91,60 @@ all-fresh columns rows staged live few =
           | no l ↦ refreshed-behind (row_differs columns staged live) 0 rows (bits_of 32 0) k (omega arith) ∙ zero_bit k h ∙ rw (le-ltb k rows (omega arith))
         ]
 
-pub shape-fresh : {d block : List ℕ} (r : Fresh) → settings_right block ≡ true
-    → (r.changes ≡ true) × (r.mark ≡ 0) × (r.first ≡ 0) × (r.end ≡ rows_at block staged_shape) × (r.columns ≡ columns_at block staged_shape)
-    → RowsFresh 0x35 d block r
+pub shape-fresh : {d block : List ℕ} {rows columns : ℕ} → settings_right block ≡ true → rows ≡ rows_at block staged_shape
+    → columns ≡ columns_at block staged_shape → RowsFresh 0x35 d block (Some (fresh_of 0 0 rows columns))
 unfolding mark_after rows_worked_out
-shape-fresh {d} {block} r right e =
+shape-fresh {d} {block} right e f =
     let b = counts block right in
     let all : rows_at block staged_shape - 0 ≡ rows_at block staged_shape = omega arith in
-    record {
-      outcome = fresh-by r e.0 e.1 e.2 e.3 e.4;
-      changes = e.0;
-      few = omega (arith, e.3, b.rows);
-      room = rw (e.4, e.3) (omega (arith, b.points));
-      whole = λ z staged live.
-          rw (e.1, e.2, e.3, e.4, all) (all-fresh (columns_at block staged_shape) (rows_at block staged_shape) staged live b.rows);
-    }
+    rw (e, f)
+    (record {
+      outcome = refl;
+      changes = refl;
+      rows =
+          record {
+            few = omega (arith, b.rows);
+            room = omega (arith, b.points);
+            whole = λ staged live. rw all (all-fresh (columns_at block staged_shape) (rows_at block staged_shape) staged live b.rows);
+          };
+    })
 
 -- ---- Any other write.
 
-pub rest-fresh : (op : ℕ) (d block : List ℕ) (r : Fresh) → (op ≡ 0x34 → ⊥) → (op ≡ 0x35 → ⊥)
-    → (r.changes ≡ (eqb op 0x36 && eqb (byte_at d 0) 1)) × (r.mark ≡ 0) × (r.first ≡ 0) × (r.end ≡ 0) × (r.columns ≡ 0) → RowsFresh op d block r
+-- 36h with 1.
+abbrev one : List ℕ → Bool
+one d = eqb (byte_at d 0) 1
+
+pub clear-fresh : (d block : List ℕ) → RowsFresh 0x36 d block (then_some (one d) (fresh_of 0 0 0 0))
 unfolding mark_after rows_worked_out bits_of refreshed
-rest-fresh op d block r a b e =
-    let same : r.changes ≡ marks op d = rw (e.0, ne_eqb op 0x34 a, ne_eqb op 0x35 b) in
+clear-fresh d block = go (one d) refl
+  where
+    go : (t : Bool) → one d ≡ t → RowsFresh 0x36 d block (then_some (one d) (fresh_of 0 0 0 0))
+    go true e =
+        rw e
+        (record {
+          outcome = rw e;
+          changes = rw e;
+          rows = record { few = omega arith; room = omega arith; whole = λ staged live. refl };
+        })
+    go false e = rw e (record { outcome = rw e; changes = rw e; rows = tt })
+
+pub rest-fresh : (op : ℕ) (d block : List ℕ) → (op ≡ 0x34 → ⊥) → (op ≡ 0x35 → ⊥) → (op ≡ 0x36 → ⊥) → RowsFresh op d block None
+unfolding rows_worked_out
+rest-fresh op d block a b c =
     record {
-      outcome = rw (ne_eqb op 0x34 a, ne_eqb op 0x35 b) (fresh-by r e.0 e.1 e.2 e.3 e.4);
-      changes = same;
-      few = omega (arith, e.3);
-      room = rw e.3 (omega arith);
-      whole = λ z staged live. rw (ne_eqb op 0x34 a, ne_eqb op 0x35 b, e.1, e.2, e.3);
+      outcome = rw (ne_eqb op 0x34 a, ne_eqb op 0x35 b, ne_eqb op 0x36 c);
+      changes = rw (ne_eqb op 0x34 a, ne_eqb op 0x35 b, ne_eqb op 0x36 c);
+      rows = tt;
     }
 
 -- ---- The four bytes.
 
-pub mark-stored : (block : List ℕ) (mark : ℕ) → length block ≡ block_size
-    → sets (sets block mark_place (word_bytes (mark % 65536))) (mark_place + 2) (word_bytes (mark / 65536)) ≡ paste block mark_place (long_bytes (mark ∷ [])) mark_size
-mark-stored block mark l =
-    sets-append block mark_place (word_bytes (mark % 65536)) (word_bytes (mark / 65536))
-    ∙ sets-paste block mark_place (word_bytes (mark % 65536) ++ word_bytes (mark / 65536)) (omega arith)
+pub mark-stored : (mark : ℕ) → mark < 2 ^ 32 → to_le_bytes w32 mark ≡ long_bytes (mark ∷ [])
+mark-stored mark h = joined (omega arith) (omega arith) refl (omega arith)
+  where
+    joined : {a a' b b' c c' d d' : ℕ} → a ≡ a' → b ≡ b' → c ≡ c' → d ≡ d' → a ∷ b ∷ c ∷ d ∷ [] ≡ a' ∷ b' ∷ c' ∷ d' ∷ []
+    joined e f g h = cc
 
 -- ---- What is told.
 
@@ -199,18 +214,18 @@ told-few block =
 -- ---- What both families cite.
 
 -- The rows worked out are the mark after the write; where none are to be, the block is as it was.
-module _ {op : ℕ} {d block : List ℕ} {r : Fresh} (f : RowsFresh op d block r) (staged live : List ℕ) where
-  pub rows-put : (mark : ℕ) → mark < 2 ^ 32 → r.changes ≡ true
+module _ {op : ℕ} {d block : List ℕ} (staged live : List ℕ) where
+  pub rows-put : {r : Fresh} → RowsFresh op d block (Some r) → (mark : ℕ) → mark < 2 ^ 32
       → bits_of 32 mark ≡ refreshed (row_differs r.columns staged live) r.first (r.end - r.first) (bits_of 32 r.mark)
       → paste block mark_place (long_bytes (mark ∷ [])) mark_size ≡ marked_block op d block staged live
   unfolding marked_block
-  rows-put mark small any same =
+  rows-put f mark small same =
       let number : of_bits (bits_of 32 mark) ≡ mark = number-back 32 mark small in
-      rw (sym f.changes ∙ any, f.whole any staged live, ← same, number)
+      rw (sym f.changes, f.rows.whole staged live, ← same, number)
 
-  pub rows_left : r.changes ≡ false → block ≡ marked_block op d block staged live
+  pub rows_left : RowsFresh op d block None → block ≡ marked_block op d block staged live
   unfolding marked_block
-  rows_left none = rw (sym f.changes ∙ none)
+  rows_left f = rw (sym f.changes)
 
 -- An accepted write leaves a block on which the mark may be worked out.
 pub mark-granted : {op o : ℕ} {d block : List ℕ} → Granted op o d block → is_read o ≡ 0 → ((k : ℕ) → get_or d k 0 < 256) → MarkGranted op d (block_after op d block)

@@ -1,9 +1,9 @@
 -- What both families of entries cite: the ways of a packet that refusal 1 does not stop, each as its step; and what an accepted command may
 -- rely on: its data was judged and lies within its table, so each of the four moves between a packet and a table stays within both.
-use Prim.Native.Nat.{ℕ, ◌+◌, ◌-◌, ◌*◌, ◌≤◌}
+use Prim.Native.Nat.{ℕ, ◌+◌, ◌*◌, ◌≤◌}
 use mathlib.Core.Path.{◌≡◌, sym, ap, ◌∙◌}
 use mathlib.Core.Bool.{true, false}
-use mathlib.Core.List.{List, []}
+use mathlib.Core.List.{List}
 use native.Mathlib.Omega.{arith}
 use borrow.Author.Tests.{ne_eqb}
 use lib.ListN.{length, take, drop}
@@ -17,7 +17,7 @@ use Rattle.opcode.specs.Options.{is_read, has_checksum, options_in}
 use Rattle.opcode.specs.Judgement.{in_pairs}
 use Rattle.packet.specs.Frame.{header_of}
 use Rattle.packet.specs.Reading.{Answer, command_at, refused_by}
-use Rattle.front_end.specs.State.{State, state, stopped}
+use Rattle.front_end.specs.State.{State, stopped}
 use Rattle.front_end.specs.Commands.{third, gains_colour, gains_start, gains_place, gains_words, gains_sent, gains_into, colour_into, write_gains, data_back}
 use Rattle.front_end.specs.Mark.{written_marked}
 use Rattle.front_end.specs.Step.{reads, decision, status_reply, read_reply, out, step}
@@ -77,10 +77,6 @@ module _ (d gains : List ℕ) (place : ℕ) (here : place ≡ gains_place false 
   unfolding colour_into
   gains-three none = let start : place ≡ gains_start false d = omega arith in rw (none, start)
 
--- A read does not look at the live map.
-abbrev without_live : State → State
-without_live s = state s.block s.staged [] s.gains
-
 -- Options have the header's checksum bit.
 same_sum : (h o : ℕ) → o ≡ options_in h → has_checksum o ≡ has_checksum h
 same_sum h o e = omega arith
@@ -99,28 +95,28 @@ module _ (p : List ℕ) (s : State) (reply : List ℕ) (runs : stopped s reply �
     pub inside : at + size ≤ length p
     inside = (commanded p s.block op o at size told).inside
 
-    pub granted : Granted op o (take (at + size - at) (drop at p)) s.block
+    pub granted : Granted op o (take size (drop at p)) s.block
     granted =
         let c = commanded p s.block op o at size told in
         let l = lent s reply runs in
-        rw c.same-part (record { judged = c.judged; fits = c.within; settings = l.settings; long = l.tables.block })
+        rw c.same-data (record { judged = c.judged; fits = c.within; settings = l.settings; long = l.tables.block })
 
     accepted : (decision p s.block).number ≡ 0
     accepted = sym (ap (λ (a : Answer). a.number) told)
 
-    -- A read's reply, which does not look at the live map, and a write's, as its step.
+    -- A read's reply, and a write's, as its step.
     pub answers-read : {n : ℕ} {answer : List ℕ} → is_read o ≡ 1
-        → Overwrites n (read_reply op o (take (at + size - at) (drop at p)) (without_live s)) reply answer
+        → Overwrites n (read_reply op o (take size (drop at p)) s) reply answer
         → out 0 0 n s answer ≡ step p s reply
     unfolding data_back
     answers-read r e =
         let c = commanded p s.block op o at size told in
         let reads-it : reads p ≡ true = c.same_reads ∙ rw r in
-        rw (e.0, e.1, c.same-part, c.same-opcode, same_sum (header_of p) o c.same-options) (sym (step-read p s reply runs accepted reads-it))
+        rw (e.0, e.1, c.same-data, c.same-opcode, same_sum (header_of p) o c.same-options) (sym (step-read p s reply runs accepted reads-it))
 
-    pub stores_write : {n : ℕ} {s' : State} {answer : List ℕ} → is_read o ≡ 0 → s' ≡ written_marked op (take (at + size - at) (drop at p)) s
+    pub stores_write : {n : ℕ} {s' : State} {answer : List ℕ} → is_read o ≡ 0 → s' ≡ written_marked op (take size (drop at p)) s
         → Overwrites n (status_reply 0 0 p) reply answer → out 0 0 n s' answer ≡ step p s reply
     stores_write r w e =
         let c = commanded p s.block op o at size told in
         let writes : reads p ≡ false = c.same_reads ∙ rw r in
-        rw (e.0, e.1, w, c.same-part, c.same-opcode) (sym (step-written p s reply runs accepted writes))
+        rw (e.0, e.1, w, c.same-data, c.same-opcode) (sym (step-written p s reply runs accepted writes))

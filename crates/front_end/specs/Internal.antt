@@ -1,6 +1,10 @@
 -- What only functions inside the library need, and no rule: what a command names of a table, and what is known of a command once it has been accepted, its data judged right,
 -- its start and count fitting, and the block in range.
 use Rattle.std.specs.Prelude.{ℕ, ◌+◌, ◌-◌, ◌*◌, ◌^◌, ◌≤◌, ◌<◌, ◌≡◌, Bool, true, false, cond, List, length, eqb}
+use Rattle.std.specs.Prelude.{Option, Some, None, is_some, IfSome, Result, Ok, Err}
+use Rattle.std.specs.Option.{unwrap_or}
+use Rattle.wire.specs.declared.refusal.Refusal.{Refusal}
+use Rattle.wire.specs.Refusals.{number_of}
 use Rattle.wire.specs.First.{first}
 use Rattle.wire.specs.Numbers.{byte_at, word_at}
 use Rattle.opcode.specs.Options.{is_read}
@@ -14,7 +18,9 @@ use Rattle.settings.specs.Reset.{map_size, gains_size}
 use Rattle.front_end.specs.declared.Points.{Points}
 use Rattle.front_end.specs.declared.Gains.{Gains}
 use Rattle.front_end.specs.declared.mark.Fresh.{Fresh}
-use Rattle.front_end.specs.Mark.{mark_at, mark_bits, first_touched, last_touched, mark_after, marks}
+use Rattle.front_end.specs.declared.mark.RowCount.{RowCount}
+use Rattle.front_end.specs.Mark.{mark_at, mark_bits, first_touched, last_touched, mark_after, marks, RowsOut, rows_out}
+use Rattle.front_end.specs.Demands.{RowsPromised}
 use Rattle.front_end.specs.Commands.{points, point_count, gains_colour, gains_start, word_count, gains_count, gains_place, runs_past, third, gains_sent}
 
 -- What a 34h command names, of a read's data or a write's; no sum of it can wrap.
@@ -72,34 +78,44 @@ pub record MarkGranted (op : ℕ) (d block : List ℕ) : Type 0 where
 
 -- The rows that a 34h write touches.
 pub record RowsNamed (d block : List ℕ) (r : Fresh) : Type 0 where
-  pub changes : r.changes ≡ true
   pub mark : r.mark ≡ mark_at block
   pub first : r.first ≡ first_touched (columns_at block staged_shape) d
   pub end : r.end ≡ last_touched (columns_at block staged_shape) d + 1
   pub columns : r.columns ≡ columns_at block staged_shape
 
 -- The rows that a write works out, and the mark into which they are put: of 34h the rows of its
--- points and the mark as it lies; of 35h all rows of the shape, and of any other none, with no bit
--- set before.
-abbrev pub fresh_of : Bool → ℕ → ℕ → ℕ → ℕ → Fresh
-fresh_of changes mark first end columns = record { changes = changes; mark = mark; first = first; end = end; columns = columns }
+-- points and the mark as it lies; of 35h all rows of the shape, and of any other that changes the
+-- mark none, with no bit set before.
+abbrev pub fresh_of : ℕ → ℕ → ℕ → ℕ → Fresh
+fresh_of mark first end columns = record { mark = mark; first = first; end = end; columns = columns }
 
-unfoldable pub rows_worked_out : ℕ → List ℕ → List ℕ → Fresh
+unfoldable pub rows_worked_out : ℕ → List ℕ → List ℕ → Option Fresh
 rows_worked_out op d block =
     cond (eqb op 0x34)
-    (fresh_of true (mark_at block) (first_touched (columns_at block staged_shape) d) (last_touched (columns_at block staged_shape) d + 1) (columns_at block staged_shape))
-    (cond (eqb op 0x35) (fresh_of true 0 0 (rows_at block staged_shape) (columns_at block staged_shape)) (fresh_of (marks op d) 0 0 0 0))
+    (Some (fresh_of (mark_at block) (first_touched (columns_at block staged_shape) d) (last_touched (columns_at block staged_shape) d + 1) (columns_at block staged_shape)))
+    (cond (eqb op 0x35) (Some (fresh_of 0 0 (rows_at block staged_shape) (columns_at block staged_shape))) (cond (marks op d) (Some (fresh_of 0 0 0 0)) None))
 
--- These rows, of any accepted write; they lie within any map, and put into the mark to begin with
--- they give the mark after it.
-pub record RowsFresh (op : ℕ) (d block : List ℕ) (r : Fresh) : Type 0 where
-  pub outcome : r ≡ rows_worked_out op d block
-  pub changes : r.changes ≡ marks op d
+-- They lie within any map, and put into the mark to begin with they give the mark after the write.
+pub record FreshRows (op : ℕ) (d block : List ℕ) (r : Fresh) : Type 0 where
   pub few : r.end ≤ mark_rows
   pub room : 2 * (r.columns * r.end) ≤ map_size
-  pub whole : r.changes ≡ true → (staged live : List ℕ)
+  pub whole : (staged live : List ℕ)
       → mark_after op d (columns_at block staged_shape) (rows_at block staged_shape) staged live (mark_bits block)
       ≡ refreshed (row_differs r.columns staged live) r.first (r.end - r.first) (bits_of mark_rows r.mark)
+
+-- These rows, of any accepted write, if it changes the mark.
+pub record RowsFresh (op : ℕ) (d block : List ℕ) (r : Option Fresh) : Type 0 where
+  pub outcome : r ≡ rows_worked_out op d block
+  pub changes : is_some r ≡ marks op d
+  pub rows : IfSome r (FreshRows op d block)
+
+-- Rule 11.4: what the code tells of a mark, 32 for no lowest row, as its promise has it.
+abbrev pub rows_of : Result RowCount Refusal → RowsOut
+rows_of (Ok r) = rows_out 0 r.count (unwrap_or r.lowest 32)
+rows_of (Err why) = rows_out (number_of why) 0 0
+
+abbrev pub RowsTold : List ℕ → Result RowCount Refusal → Type 0
+RowsTold block r = RowsPromised block (rows_of r).status (rows_of r).count (rows_of r).lowest
 
 -- An accepted read or write on tables of the right length, of so many elements a number: one where numbers are lent, two where bytes are.
 pub record ReadGranted (wide op o : ℕ) (d block staged gains : List ℕ) : Type 0 where

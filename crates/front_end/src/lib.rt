@@ -9,6 +9,7 @@ ghost use Rattle.std.proofs.Math.Seq.{paste};
 ghost use Rattle.wire.specs.Buffers.{Overwrites};
 ghost use Rattle.wire.specs.First.{first};
 ghost use Rattle.wire.specs.Numbers.{byte_at};
+ghost use Rattle.wire.specs.Refusals.{number_of, place_of, status_if, fault_if};
 ghost use Rattle.opcode.specs.Options.{is_read};
 ghost use Rattle.opcode.specs.Judgement.{judgement};
 ghost use Rattle.packet.specs.Reading.{answer};
@@ -18,10 +19,10 @@ ghost use Rattle.front_end.specs.State.{reply_room, data_room};
 ghost use Rattle.front_end.specs.Commands.{«point_count», colour_place, gains_start, gains_count, third, «runs_past»};
 ghost use Rattle.front_end.specs.Commands.{block_after, block_back, write_shape, apply_block, read_shape};
 ghost use Rattle.front_end.specs.Internal.{PointsNamed, GainsNamed};
-ghost use Rattle.front_end.specs.Step.{decision, place_data, status_reply};
+ghost use Rattle.front_end.specs.Step.{decision, «answers», place_data, status_reply};
 
-use opcode::bits;
-use packet::Reading;
+use opcode::Header;
+use packet::Command;
 use settings::layout::*;
 use wire::Refusal;
 
@@ -42,44 +43,34 @@ pub const REPLY_ROOM: usize = wire::LONGEST;
 
 pub const GAIN_ONE: u16 = 4096;
 
-// What is to be done with a packet, by its bytes and the settings alone: the command, or refusal 2 to 12.
-pub fn decide(packet: &[u8], block: &[u8]) -> Reading
+// What is to be done with a packet, by its bytes and the settings alone: the command, or refusal 2
+// to 12.
+pub fn decide(packet: &[u8], block: &[u8]) -> Result<Command, Refusal>
     ensures { answer result ≡ decision packet.now block.now }
 {
-    let r = packet::read(packet);
-    let Reading::Command {
-        opcode,
-        options,
-        at,
-        size,
-    } = r
-    else {
-        return r;
-    };
-    if runs_past(
-        opcode as usize,
-        options as usize / bits::READ % 2 == 1,
-        &packet[at..at + size],
-        block,
-    ) {
-        return Reading::Refused(Refusal::by(12));
+    let command = packet::read(packet)?;
+    if runs_past(command, command.data(packet), block) {
+        return Err(Refusal::RunsPast);
     }
-    r
+    Ok(command)
 }
 
-// Whether start + count goes past the staged shape's points (34h, rule 5.4) or past a colour's gains (2Bh, rules 5.8 and 5.11).
-fn runs_past(opcode: usize, reads: bool, data: &[u8], block: &[u8]) -> bool
-    ensures { result ≡ «runs_past» opcode reads «data».now block.now }
+// Whether start + count goes past the staged shape's points (34h, rule 5.4) or past a colour's
+// gains (2Bh, rules 5.8 and 5.11).
+#[tactic(auto, unfolding(crate::specs::Commands::runs_past))]
+fn runs_past(command: Command, data: &[u8], block: &[u8]) -> bool
+    ensures { result ≡ «runs_past» command.opcode (eqb (is_read command.options) 1) «data».now block.now }
 {
-    if opcode == 0x34 {
-        let named = points_named(reads, data);
-        let points = wire::word(block, STAGED_COLUMNS) * wire::word(block, STAGED_ROWS);
-        return points < named.start + named.count;
+    let reads = command.header().reads();
+    match command.opcode {
+        0x34 => {
+            let named = points_named(reads, data);
+            let points = wire::word(block, STAGED_COLUMNS) * wire::word(block, STAGED_ROWS);
+            points < named.start + named.count
+        }
+        0x2B => gains_past(reads, data),
+        _ => false,
     }
-    if opcode == 0x2B {
-        return gains_past(reads, data);
-    }
-    false
 }
 
 // 2Bh: a write of pairs has as many gains as its runs add up to.
@@ -88,7 +79,7 @@ fn gains_past(reads: bool, data: &[u8]) -> bool
 {
     let named = gains_named(reads, data);
     if !reads & opcode::in_pairs(data) {
-        return gain_words::bytes::runs_past(named.start, data, GAINS_HEAD);
+        return gain_words::runs_past(named.start, opcode::words(data));
     }
     COLOUR_GAINS < named.start + named.count
 }
@@ -170,55 +161,102 @@ fn gains_at(colour: usize, start: usize, count: usize) -> Gains
     }
 }
 
-// Writes the reply that carries a status, and of refusal 10 its place, if the packet asks for one. Answers its length, 0 for none.
-pub fn acknowledge(packet: &[u8], number: usize, place: usize, reply: &mut [u8]) -> usize
-    requires { (number < 256) × (place < 65536) × (reply_room ≤ length reply.old) }
-    ensures { Overwrites result (status_reply number place packet.now) reply.old reply.new }
+// Writes the reply that carries a status, and of refusal 10 its place, if the packet asks for one.
+// Answers its length, 0 for none.
+pub fn acknowledge(packet: &[u8], refused: Option<Refusal>, reply: &mut [u8]) -> usize
+    requires { (fault_if refused < 65536) × (reply_room ≤ length reply.old) }
+    ensures { Overwrites result (status_reply (status_if refused) (fault_if refused) packet.now)
+        reply.old reply.new }
 {
-    if packet.len() == 0 {
+    let status = status(refused);
+    if !answers(status, packet) {
         return 0;
     }
-    let header = wire::byte(packet, 0);
-    // Neither a reply is requested nor a read: bits 6 and 7.
-    if header / bits::REPLY % 4 == 0 {
-        return 0;
-    }
-    if number == 1 {
-        return 0;
-    }
-    let n = put_place(&mut reply[3..], number, place);
-    reply::seal(reply, number, n, header / bits::CHECKSUM % 2 == 1)
+    let n = put_place(&mut reply[3..], refused);
+    reply::seal(reply, status, n, header_of(packet).has_checksum())
 }
 
-// The data of such a reply, over the start of the buffer: of refusal 10 the place in two bytes, else none. Answers its size.
-fn put_place(out: &mut [u8], number: usize, place: usize) -> usize
-    requires { (place < 65536) × (data_room ≤ length out.old) }
-    ensures { Overwrites result (place_data number place) out.old out.new }
+// Rule 3.2: a reply needs a first byte that asks for one or is a read's, and another status than 1.
+fn answers(status: u8, packet: &[u8]) -> bool
+    ensures { result ≡ «answers» status packet.now }
 {
-    if number == 10 {
-        wire::put_word(out, 0, place);
-        return 2;
-    }
-    0
+    let header = header_of(packet);
+    !packet.is_empty() & (header.reads() | header.asks_reply()) & (status != 1)
 }
 
-// Rule 3.4: why the packet was refused, number 0 where it was not, and the length of the reply, 0 where there is none.
-#[derive(Clone, Copy)]
+fn header_of(packet: &[u8]) -> Header
+    ensures { result.bits ≡ byte_at packet.now 0 }
+{
+    Header {
+        bits: wire::byte(packet, 0),
+    }
+}
+
+// Rule 3.4: the number of a refusal, 0 for none.
+fn status(refused: Option<Refusal>) -> u8
+    ensures { result ≡ status_if refused }
+{
+    match refused {
+        Some(why) => why.number(),
+        None => 0,
+    }
+}
+
+// The data of such a reply, over the start of the buffer: of refusal 10 the place in two bytes,
+// else none. Answers its size.
+fn put_place(out: &mut [u8], refused: Option<Refusal>) -> usize
+    requires { (fault_if refused < 65536) × (data_room ≤ length out.old) }
+    ensures { Overwrites result (place_data (status_if refused) (fault_if refused)) out.old out.new }
+{
+    let Some(why) = refused else {
+        return 0;
+    };
+    match why {
+        Refusal::ValueWrong(place) => {
+            wire::put_word(out, 0, place);
+            2
+        }
+        _ => 0,
+    }
+}
+
+// Rule 3.4: why the packet was refused, if it was, and the length of the reply, 0 where there is
+// none.
+#[derive(Clone, Copy, Debug, PartialEq, Eq)]
 pub struct Outcome {
-    pub why: Refusal,
+    pub refused: Option<Refusal>,
     pub size: usize,
 }
 
+impl Outcome {
+    // The number of the refusal, 0 for none.
+    pub fn status(self) -> u8
+        ensures { result ≡ status_if self.refused }
+    {
+        status(self.refused)
+    }
+
+    // The place that the refusal names, 0 for none.
+    pub fn place(self) -> usize
+        ensures { result ≡ fault_if self.refused }
+    {
+        match self.refused {
+            Some(why) => why.place(),
+            None => 0,
+        }
+    }
+}
+
 // The answer to a packet that a decision refuses.
-pub fn refuse(decision: Reading, packet: &[u8], reply: &mut [u8]) -> Outcome
-    requires { ((answer decision).fault-place < 65536) × (reply_room ≤ length reply.old) }
-    ensures { (result.why.number ≡ (answer decision).number) × (result.why.place ≡ (answer decision).fault-place)
-        × Overwrites result.size (status_reply (answer decision).number (answer decision).fault-place packet.now)
+pub fn refuse(why: Refusal, packet: &[u8], reply: &mut [u8]) -> Outcome
+    requires { (place_of why < 65536) × (reply_room ≤ length reply.old) }
+    ensures { (status_if result.refused ≡ number_of why) × (fault_if result.refused ≡ place_of why)
+        × Overwrites result.size (status_reply (number_of why) (place_of why) packet.now)
         reply.old reply.new }
 {
-    let why = decision.refusal();
-    let size = acknowledge(packet, why.number as usize, why.place, reply);
-    Outcome { why, size }
+    let refused = Some(why);
+    let size = acknowledge(packet, refused, reply);
+    Outcome { refused, size }
 }
 
 // What an accepted write's command stores in the block; 2Bh and 34h store in tables alone. The row mark is put behind it (`mark`). What any other stores ends its data, behind the pin or port. Sizes come
@@ -270,22 +308,10 @@ fn store_apply(block: &mut [u8], data: &[u8])
 {
     if wire::byte(data, 0) == 1 {
         wire::put_byte(block, ENABLE, 1);
-        copy_within(block, LIVE_SHAPE, STAGED_SHAPE, SHAPE_SIZE);
+        block.copy_within(STAGED_SHAPE..STAGED_SHAPE + SHAPE_SIZE, LIVE_SHAPE);
         return;
     }
     wire::put_byte(block, ENABLE, 0);
-}
-
-// Copies n bytes from a place on over those from a place behind them on.
-fn copy_within(block: &mut [u8], at: usize, from: usize, n: usize)
-    requires { (from + n ≤ at) × (at + n ≤ length block.old) }
-    ensures { block.new ≡ paste block.old at (drop from block.old) n }
-{
-    let mut k = 0;
-    while k < n {
-        block[at + k] = block[from + k];
-        k += 1;
-    }
 }
 
 // The data that a read of a setting returns, over the start of the buffer. Answers its size.

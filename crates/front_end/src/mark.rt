@@ -1,56 +1,47 @@
-// The row mark of the block (section 11): which rows an accepted write works out afresh, and what is told of a mark.
-ghost use Rattle.std.specs.Prelude.{◌≡◌, [], ◌∷◌, ◌<◌, ◌&&◌, eqb, length};
-ghost use Rattle.wire.specs.Numbers.{byte_at};
+// The row mark of the block (section 11): which rows an accepted write works out afresh, and what
+// is told of a mark.
+ghost use Rattle.std.specs.Prelude.{◌≡◌, [], ◌∷◌, length};
 ghost use Rattle.std.proofs.Math.Seq.{paste};
 ghost use Rattle.wire.specs.Tables.{long_bytes};
 ghost use Rattle.settings.specs.Layout.{block_size, mark_place, mark_size};
 ghost use Rattle.front_end.specs.Mark.{mark_at};
-ghost use Rattle.front_end.specs.Demands.{RowsPromised};
-ghost use Rattle.front_end.specs.Internal.{MarkGranted, RowsNamed, RowsFresh};
+ghost use Rattle.front_end.specs.Internal.{MarkGranted, RowsNamed, RowsFresh, RowsTold};
 
 use settings::layout::*;
+use wire::Refusal;
 
-// What a write does to the mark: whether it changes it at all; if so, the rows from the first up to the end, in a map of so many columns, are worked out and put
-// into the mark given here.
+// What a write that changes the mark does to it: the rows from the first up to the end, in a map of
+// so many columns, are worked out and put into the mark given here.
 #[derive(Clone, Copy)]
 pub struct Fresh {
-    pub changes: bool,
     pub mark: u32,
     pub first: usize,
     pub end: usize,
     pub columns: usize,
 }
 
-// The rows that an accepted write works out: of 34h those that hold its points, of 35h those of the shape, with no bit set before. The block is as the write's
-// command leaves it.
-pub fn fresh_rows(opcode: usize, data: &[u8], block: &[u8]) -> Fresh
+// The rows that an accepted write works out, if it changes the mark: of 34h those that hold its
+// points, of 35h those of the shape, with no bit set before; 36h with 1 puts a mark without a bit.
+// The block is as the write's command leaves it.
+pub fn fresh_rows(opcode: usize, data: &[u8], block: &[u8]) -> Option<Fresh>
     requires { MarkGranted opcode «data».now block.now }
     ensures { RowsFresh opcode «data».now block.now result }
 {
     match opcode {
-        0x34 => touched(data, block),
-        0x35 => Fresh {
-            changes: true,
+        0x34 => Some(touched(data, block)),
+        0x35 => Some(Fresh {
             mark: 0,
             first: 0,
             end: wire::word(block, STAGED_ROWS),
             columns: wire::word(block, STAGED_COLUMNS),
-        },
-        _ => no_rows(opcode, data),
-    }
-}
-
-// Of other commands no row is worked out: 36h with 1 puts a mark without a bit, and any other leaves the mark.
-fn no_rows(opcode: usize, data: &[u8]) -> Fresh
-    ensures { (result.changes ≡ (eqb opcode 0x36 && eqb (byte_at «data».now 0) 1)) × (result.mark ≡ 0) × (result.first ≡ 0)
-        × (result.end ≡ 0) × (result.columns ≡ 0) }
-{
-    Fresh {
-        changes: (opcode == 0x36) & (wire::byte(data, 0) == 1),
-        mark: 0,
-        first: 0,
-        end: 0,
-        columns: 0,
+        }),
+        0x36 => (wire::byte(data, 0) == 1).then_some(Fresh {
+            mark: 0,
+            first: 0,
+            end: 0,
+            columns: 0,
+        }),
+        _ => None,
     }
 }
 
@@ -62,7 +53,6 @@ fn touched(data: &[u8], block: &[u8]) -> Fresh
     let named = crate::points_named(false, data);
     let columns = wire::word(block, STAGED_COLUMNS);
     Fresh {
-        changes: true,
         mark: read(block),
         first: named.start / columns,
         end: (named.start + named.count - 1) / columns + 1,
@@ -82,33 +72,26 @@ pub fn put(block: &mut [u8], mark: u32)
     requires { length block.old ≡ block_size }
     ensures { block.new ≡ paste block.old mark_place (long_bytes (mark ∷ [])) mark_size }
 {
-    wire::put_word(block, ROW_MARK, mark as usize % 65536);
-    wire::put_word(block, ROW_MARK_HIGH, mark as usize / 65536);
+    block[ROW_MARK..ROW_MARK + ROW_MARK_SIZE].copy_from_slice(&mark.to_le_bytes());
 }
 
-// How many rows are marked and the lowest of them, 32 for none. The status is 0, or 1 for a wrong length, with no rows.
+// How many rows are marked, and the lowest of them if there is one.
 #[derive(Clone, Copy)]
 pub struct RowCount {
-    pub status: u8,
     pub count: u32,
-    pub lowest: u32,
+    pub lowest: Option<u32>,
 }
 
 // What is told of the mark in a block, as it lies: of the block only the length is judged.
-pub fn rows(block: &[u8]) -> RowCount
-    ensures { RowsPromised block.now result.status result.count result.lowest }
+pub fn rows(block: &[u8]) -> Result<RowCount, Refusal>
+    ensures { RowsTold block.now result }
 {
     if block.len() != BLOCK_SIZE {
-        return RowCount {
-            status: 1,
-            count: 0,
-            lowest: 0,
-        };
+        return Err(Refusal::LentWrong);
     }
     let mark = read(block);
-    RowCount {
-        status: 0,
+    Ok(RowCount {
         count: row_mark::count(mark),
         lowest: row_mark::lowest(mark),
-    }
+    })
 }

@@ -1,6 +1,5 @@
 -- Laws of the front end on tables lent as bytes: parts of a table moved as bytes, the step on numbers as the step on bytes, and
 -- that it answers as the entries on numbers do.
-pub mod Moves
 pub mod Ways
 pub mod Promises
 pub mod Determined

@@ -1,22 +1,26 @@
--- One packet on lent bytes: stopped by refusal 1, or the step on numbers, whose tables turn into bytes and back without loss. Then reset.
-use Prim.Native.Nat.{ℕ, ◌/◌}
-use mathlib.Core.Path.{◌≡◌, refl, sym, ◌∙◌}
-use mathlib.Core.Bool.{Bool, true, false, not, ◌||◌}
+-- Lent bytes: their lengths, and the numbers that they hold, which turn into bytes and back without
+-- loss; and the entries on them, from those on tables of any elements.
+use Prim.Native.Nat.{ℕ}
+use mathlib.Core.Path.{◌≡◌, refl, ap, ◌∙◌}
+use mathlib.Core.Bool.{Bool, true, false}
 use mathlib.Core.List.{List}
 use native.Mathlib.Omega.{arith}
 use borrow.Author.Tests.{eq-eqb}
-use lib.ListN.{length, replicate}
-use lib.Dec.{leb}
 use Rattle.wire.proofs.Tests.{told}
-use Rattle.wire.specs.Tables.{bytes}
-use Rattle.settings.specs.Ranges.{settings_right}
-use Rattle.settings.specs.Reset.{map_size, gains_size, reset_block, reset_map, reset_gains}
+use Rattle.wire.specs.Tables.{words}
+use Rattle.settings.specs.Reset.{map_size, gains_size}
 use Rattle.tables.proofs.Bytes.{Below, bytes-words, length-words-of}
-use Rattle.front_end.specs.State.{reply_room, State, lengths_right, stopped}
-use Rattle.front_end.specs.Step.{out, step}
-use Rattle.front_end.proofs.Steps.{step-stopped}
-use Rattle.front_end_bytes.specs.Bytes.{Lent, state_in, lent_of, byte_lengths_right, lent_out, step_bytes, lent_reset, reset_bytes}
+use Rattle.front_end.specs.State.{lengths_right}
+use Rattle.front_end_tables.specs.Lent.{Lent as Tables, lent, Handled, Reset}
+use Rattle.front_end_bytes.specs.Bytes.{Lent, state_in, lent_of, byte_lengths_right, lent_out, out_bytes, step_bytes, lent_reset, reset_bytes}
 use Rattle.front_end_bytes.specs.Plain.{BytesLent}
+
+-- The same lists, as the front end on tables of any elements has them.
+abbrev pub any : Lent → Tables ℕ
+any l = lent l.block l.staged l.live l.gains
+
+abbrev back : Tables ℕ → Lent
+back t = record { block = t.block; staged = t.staged; live = t.live; gains = t.gains }
 
 -- Lent tables are bytes.
 pub record Small (l : Lent) : Type 0 where
@@ -36,10 +40,6 @@ module _ (l : Lent) where
   wide-lengths z =
       rw (z.block, length-words-of l.staged map_size z.staged, length-words-of l.live map_size z.live, length-words-of l.gains gains_size z.gains)
 
-  pub stopped_by : (reply : List ℕ) → BytesLent l → stopped (state_in l) reply ≡ (not (leb reply_room (length reply)) || not (settings_right l.block))
-  unfolding stopped
-  stopped_by reply z = rw (wide-lengths z)
-
   -- Numbers that nothing changed are the bytes that were lent.
   pub unchanged : byte_lengths_right l ≡ true → Small l → l ≡ lent_of (state_in l)
   unchanged right s =
@@ -50,34 +50,25 @@ module _ (l : Lent) where
         bytes-words l.gains (omega (arith, z.gains)) s.gains,
       )
 
--- Refusal 1 does not apply.
-pub running : {r right stops : Bool} → r ≡ (not right || stops) → r ≡ false → (right ≡ true) × (stops ≡ false)
-running e f = let g = sym e ∙ f in (search told, search told)
+-- What is promised of tables of any elements is, of bytes, what the rules say.
+pub stepped : {p : List ℕ} {l l₂ : Lent} {reply reply₂ : List ℕ} {status fault size : ℕ} → Small l₂
+    → (byte_lengths_right l ≡ true → byte_lengths_right l₂ ≡ true)
+    → Handled 2 words p (any l) reply status fault size (any l₂) reply₂
+    → lent_out status fault size l₂ reply₂ ≡ step_bytes p l reply
+unfolding step_bytes
+stepped {p} {l} {l₂} {reply} {reply₂} {status} {fault} {size} small long h = go (byte_lengths_right l) refl
+  where
+    go : (b : Bool) → byte_lengths_right l ≡ b → lent_out status fault size l₂ reply₂ ≡ step_bytes p l reply
+    go true e = rw e (ap (λ k. lent_out status fault size k reply₂) (unchanged l₂ (long e) small) ∙ ap out_bytes (h.right e))
+    go false e =
+        let w = h.wrong e in
+        rw (e, w.0, w.1, w.2, ap back w.3, w.4) refl
 
-module _ (p : List ℕ) (l : Lent) (reply : List ℕ) where
-  -- The step on the numbers that the bytes hold, as the step on the bytes.
-  pub in_bytes : byte_lengths_right l ≡ true → {status fault size : ℕ} {s : State} {t : Lent} {answer : List ℕ} → t ≡ lent_of s
-      → out status fault size s answer ≡ step p (state_in l) reply → lent_out status fault size t answer ≡ step_bytes p l reply
-  unfolding step_bytes
-  in_bytes right same e = rw (same, right, ← e)
-
-  pub stopped-way : Small l → {r : Bool} → r ≡ (not (byte_lengths_right l) || stopped (state_in l) reply) → r ≡ true
-      → lent_out 1 0 0 l reply ≡ step_bytes p l reply
-  unfolding step_bytes
-  stopped-way small e f = go (byte_lengths_right l) refl (sym e ∙ f)
-    where
-      go : (b : Bool) → byte_lengths_right l ≡ b → (not b || stopped (state_in l) reply) ≡ true → lent_out 1 0 0 l reply ≡ step_bytes p l reply
-      go true right e = in_bytes right (unchanged l right small) (sym (step-stopped p (state_in l) reply e))
-      go false right e = rw right
-
--- Reset: a table of n bytes is filled with n / 2 numbers.
-pub reset-way : (l : Lent) → byte_lengths_right l ≡ true → (t : Lent) → t.block ≡ reset_block
-    → t.staged ≡ bytes (replicate (length l.staged / 2) 0) → t.live ≡ bytes (replicate (length l.live / 2) 0)
-    → t.gains ≡ bytes (replicate (length l.gains / 2) 4096) → lent_reset 0 t ≡ reset_bytes l
-unfolding reset_bytes reset_map reset_gains
-reset-way l right t eb es el eg =
-    let z = sized l right in
-    let staged : length l.staged / 2 ≡ map_size = omega (arith, z.staged) in
-    let live : length l.live / 2 ≡ map_size = omega (arith, z.live) in
-    let gains : length l.gains / 2 ≡ gains_size = omega (arith, z.gains) in
-    rw (right, eb, es, el, eg, staged, live, gains)
+pub put-back : {l l₂ : Lent} {status : ℕ} → Small l₂ → (byte_lengths_right l ≡ true → byte_lengths_right l₂ ≡ true)
+    → Reset 2 words (any l) status (any l₂) → lent_reset status l₂ ≡ reset_bytes l
+unfolding reset_bytes
+put-back {l} {l₂} {status} small long h = go (byte_lengths_right l) refl
+  where
+    go : (b : Bool) → byte_lengths_right l ≡ b → lent_reset status l₂ ≡ reset_bytes l
+    go true e = let r = h.right e in rw (e, r.0) (ap (lent_reset 0) (unchanged l₂ (long e) small ∙ ap lent_of r.1))
+    go false e = let w = h.wrong e in rw (e, w.0, ap back w.1) refl

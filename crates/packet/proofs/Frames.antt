@@ -1,10 +1,10 @@
 -- Frames and what stands in them. The refusals of a command, which follow those of its frame, may be any list.
 use Prim.Native.Nat.{ℕ, ◌+◌, ◌-◌, ◌≤◌}
 use mathlib.Core.Path.{◌≡◌, refl, sym, ap, ◌∙◌}
-use mathlib.Core.Bool.{Bool, true, false, cond, not, ◌&&◌}
+use mathlib.Core.Bool.{Bool, true, false, cond}
 use mathlib.Core.List.{List, [], ◌∷◌, ◌++◌}
 use native.Mathlib.Omega.{arith}
-use borrow.Author.Tests.{ltb-false, eqb-true, eqb-false, eq-eqb}
+use borrow.Author.Tests.{ltb-false, eqb-true, eqb-false}
 use lib.ListN.{length, take, drop}
 use lib.Dec.{eqb}
 use Rattle.wire.specs.First.{first}
@@ -39,17 +39,7 @@ none_of a b c d e ts h =
     let silent = first-silent (rows a b c d e) (omega arith) both.0 in
     (record { no-2 = silent.0; no-3 = silent.1.0; no-4 = silent.1.1.0; no-5 = silent.1.1.1.0; no-6 = silent.1.1.1.1.0 }, both.1)
 
--- The tests of a frame, one by one.
-pub framed-by : (p : List ℕ) {a b c d e : Bool} → too_short p ≡ a → too_long p ≡ b → length_differs p ≡ c → checksum_differs p ≡ d
-    → elsewhere p ≡ e → framed p ≡ answered (first (rows a b c d e)) p
-unfolding framed
-framed-by p h i j k l = rw (h, i, j, k, l)
-
--- The length field's test, where a stand-in takes the place of a field that is not there.
-pub stand-in : (b : Bool) (w n v : ℕ) → v ≡ cond b w n → (b && not (eqb w n)) ≡ not (eqb v n)
-stand-in true w n v e = rw e
-stand-in false w n v e = rw (eq-eqb v n e)
-
+-- What stands in a packet, part by part.
 pub standing-as : (p : List ℕ) {op o at size : ℕ} → op ≡ opcode_of p → o ≡ options_of p → at ≡ place (header_of p) → size ≡ data_size p
     → command_at op o at size ≡ standing p
 standing-as p h i j k = rw (h, i, j, k)
@@ -163,3 +153,18 @@ refusal-some SizeWrong = refl
 refusal-some (ValueWrong place) = refl
 refusal-some NamedOnly = refl
 refusal-some RunsPast = refl
+
+-- Nor one above 12.
+pub refusal-few : (why : Refusal) → number_of why ≤ 12
+refusal-few LentWrong = omega arith
+refusal-few TooShort = omega arith
+refusal-few TooLong = omega arith
+refusal-few LengthDiffers = omega arith
+refusal-few ChecksumDiffers = omega arith
+refusal-few NotForUs = omega arith
+refusal-few Unknown = omega arith
+refusal-few LacksLength = omega arith
+refusal-few SizeWrong = omega arith
+refusal-few (ValueWrong place) = omega arith
+refusal-few NamedOnly = omega arith
+refusal-few RunsPast = omega arith

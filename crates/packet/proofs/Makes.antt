@@ -42,10 +42,6 @@ made_fault n op o d buffer = go (eqb n 0) refl
     go true e = rw (eqb-true n 0 e)
     go false e = rw e
 
--- Where nothing is refused there is no place.
-pub no_place : (op o : ℕ) (d : List ℕ) (n f : ℕ) → (n ≡ first (judgement op o d)) × (f ≡ fault_place (first (judgement op o d)) op o d) → n ≡ 0 → f ≡ 0
-no_place op o d n f e z = e.1 ∙ rw (sym e.0 ∙ z)
-
 module _ (op options : ℕ) (d buffer : List ℕ) where
   pub made-by : (n : ℕ) → first (make_refusals op (options_in options) d (length buffer)) ≡ n
       → made op options d buffer ≡ made_by n op (options_in options) d buffer

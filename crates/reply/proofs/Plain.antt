@@ -27,7 +27,12 @@ pinned =
       without-sum = λ status d. rw (append-nil d);
       with-sum = λ status d. rw (checksum-agrees _).weighs;
       answer-reply = λ status at size. refl;
-      answer-refused = λ number. refl;
+      answer-refused = λ why. refl;
+      number-2 = refl;
+      number-3 = refl;
+      number-4 = refl;
+      number-5 = refl;
+      number-10 = refl;
     }
 
 -- Each test of a list means a statement of its number; so does the first that holds.

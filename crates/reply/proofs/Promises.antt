@@ -7,5 +7,5 @@ use Rattle.reply.specs.Answer.{ReplyAnswer}
 use Rattle.reply.specs.Reading.{reply_reading, ReplyRead}
 use Rattle.reply.proofs.Plain.{reply-plain}
 
-pub reply-promised : (r : List ℕ) (sum : Bool) {a : ReplyAnswer} → a ≡ reply_reading r sum → ReplyRead r sum a
-reply-promised r sum e = rw e (record { outcome = refl; plain = reply-plain r sum })
+pub reply_promised : (r : List ℕ) (sum : Bool) {a : ReplyAnswer} → a ≡ reply_reading r sum → ReplyRead r sum a
+reply_promised r sum e = rw e (record { outcome = refl; plain = reply-plain r sum })

@@ -1,12 +1,13 @@
 -- Rule 3.5 with the numbers themselves: when each refusal of reading a reply applies, whatever
 -- the others do, and what is answered. No other answer meets this (proofs/Determined). And what
 -- the names of this crate mean that plain promises cite.
-use Rattle.std.specs.Prelude.{ℕ, ◌+◌, ◌-◌, ◌/◌, ◌%◌, ◌<◌, ◌≡◌, Bool, true, false, List, [], ◌∷◌, ◌++◌, length, take}
+use Rattle.std.specs.Prelude.{ℕ, ◌+◌, ◌-◌, ◌/◌, ◌%◌, ◌<◌, ◌≡◌, Bool, true, false, List, [], ◌∷◌, ◌++◌, length, take, Ok, Err}
 use Rattle.wire.specs.Numbers.{byte_at, word_at}
 use Rattle.wire.specs.Checksum.{weighted, checksum}
 use Rattle.wire.specs.Plain.{Least}
-use Rattle.reply.specs.declared.ReplyReading.TheVariants.{Reply, Refused}
-use Rattle.reply.specs.Answer.{ReplyAnswer, reply_answer}
+use Rattle.reply.specs.declared.ReplyRefusal.{ReplyRefusal}
+use Rattle.reply.specs.declared.ReplyRefusal.TheVariants.{TooShort, TooLong, LengthDiffers, ChecksumDiffers, StatusWrong}
+use Rattle.reply.specs.Answer.{ReplyAnswer, reply_number, reply_answer}
 use Rattle.reply.specs.Reply.{reply_bytes}
 
 pub record Pinned : Type 0 where
@@ -18,8 +19,14 @@ pub record Pinned : Type 0 where
       ≡ (status ∷ length d % 256 ∷ length d / 256 ∷ d) ++ (weighted (status ∷ length d % 256 ∷ length d / 256 ∷ d) % 256 ∷ [])
   -- The code's answer: a reply has the number 0; of a refusal all but the number is 0.
   pub answer-reply : (status at size : ℕ)
-      → reply_answer (Reply status at size) ≡ record { number = 0; status = status; place = at; size = size }
-  pub answer-refused : (number : ℕ) → reply_answer (Refused number) ≡ record { number = number; status = 0; place = 0; size = 0 }
+      → reply_answer (Ok (record { status = status; at = at; size = size })) ≡ record { number = 0; status = status; place = at; size = size }
+  pub answer-refused : (why : ReplyRefusal)
+      → reply_answer (Err why) ≡ record { number = reply_number why; status = 0; place = 0; size = 0 }
+  pub number-2 : reply_number TooShort ≡ 2
+  pub number-3 : reply_number TooLong ≡ 3
+  pub number-4 : reply_number LengthDiffers ≡ 4
+  pub number-5 : reply_number ChecksumDiffers ≡ 5
+  pub number-10 : reply_number StatusWrong ≡ 10
 
 -- Rule 3.5: 2 below three bytes, or four where a checksum is expected; 3 over 512 bytes; 4 where
 -- the length does not count the data there; 5 where the last byte is not the checksum of those

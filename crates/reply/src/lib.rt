@@ -4,69 +4,66 @@
 ghost use Rattle.std.specs.Prelude.{◌≡◌, ◌+◌, ◌<◌, ◌≤◌, length, take, drop};
 ghost use Rattle.wire.specs.Buffers.{Overwrites};
 ghost use Rattle.reply.specs.Reply.{reply_bytes};
-ghost use Rattle.reply.specs.Answer.{reply_answer, reply_refused_by};
-ghost use Rattle.reply.specs.Reading.{ReplyRead, «checksum_size», «checksum_wrong»};
+ghost use Rattle.reply.specs.Answer.{reply_answer, reply_number};
+ghost use Rattle.reply.specs.Reading.{ReplyRead, «checksum_wrong»};
 
 use wire::LONGEST;
 
-// What a reply says: its status, and the place and the size of its data; or the number of why it is none, which names no place.
-#[derive(Clone, Copy)]
-pub enum ReplyReading {
-    Reply { status: u8, at: usize, size: usize },
-    Refused(u8),
+// What a reply says: its status, and the place and the size of its data.
+#[derive(Clone, Copy, Debug, PartialEq, Eq)]
+pub struct Reply {
+    pub status: u8,
+    pub at: usize,
+    pub size: usize,
 }
 
-impl ReplyReading {
-    // Why it is none; 0 where it is one.
-    pub fn refusal(self) -> u8
-        ensures { result ≡ (reply_answer self).number }
+// Rule 3.5: why bytes are no reply, with the number of each. None of these names a place.
+#[derive(Clone, Copy, Debug, PartialEq, Eq)]
+pub enum ReplyRefusal {
+    TooShort = 2,
+    TooLong = 3,
+    LengthDiffers = 4,
+    ChecksumDiffers = 5,
+    StatusWrong = 10,
+}
+
+impl ReplyRefusal {
+    pub fn number(self) -> u8
+        ensures { result ≡ reply_number self }
     {
-        match self {
-            ReplyReading::Refused(number) => number,
-            ReplyReading::Reply {
-                status: _,
-                at: _,
-                size: _,
-            } => 0,
-        }
+        self as u8
     }
 }
 
 // Reads a reply; checksum says whether one is expected.
-pub fn read_reply(reply: &[u8], checksum: bool) -> ReplyReading
+#[tactic(auto, using(crate::proofs::Promises::reply_promised), unfolding(crate::specs::Reading::reply_reading))]
+pub fn read_reply(reply: &[u8], checksum: bool) -> Result<Reply, ReplyRefusal>
     ensures { ReplyRead reply.now checksum (reply_answer result) }
 {
     let n = reply.len();
-    let extra = checksum_size(checksum);
+    let extra = checksum as usize;
     if n < 3 + extra {
-        return refused(2);
+        return Err(ReplyRefusal::TooShort);
     }
     if LONGEST < n {
-        return refused(3);
+        return Err(ReplyRefusal::TooLong);
     }
     let size = n - 3 - extra;
     if wire::word(reply, 1) != size {
-        return refused(4);
+        return Err(ReplyRefusal::LengthDiffers);
     }
     if checksum_wrong(reply, checksum) {
-        return refused(5);
+        return Err(ReplyRefusal::ChecksumDiffers);
     }
     let status = reply[0];
     if 12 < status {
-        return refused(10);
+        return Err(ReplyRefusal::StatusWrong);
     }
-    ReplyReading::Reply {
+    Ok(Reply {
         status,
         at: 3,
         size,
-    }
-}
-
-// The bytes that a checksum takes.
-fn checksum_size(checksum: bool) -> usize
-    ensures { (result ≡ «checksum_size» checksum) × (result ≤ 1) }
-{
-    if checksum { 1 } else { 0 }
+    })
 }
 
 // Whether a checksum is expected and the last byte is not that of the bytes before it.
@@ -74,27 +71,18 @@ fn checksum_wrong(reply: &[u8], checksum: bool) -> bool
     requires { 0 < length reply.now }
     ensures { result ≡ «checksum_wrong» reply.now checksum }
 {
-    if checksum {
-        let n = reply.len() - 1;
-        wire::byte(reply, n) != wire::checksum(reply, n)
-    } else {
-        false
-    }
+    let n = reply.len() - 1;
+    checksum && wire::byte(reply, n) != wire::checksum(reply, n)
 }
 
-fn refused(number: u8) -> ReplyReading
-    ensures { reply_answer result ≡ reply_refused_by number }
-{
-    ReplyReading::Refused(number)
-}
-
-// Puts the head before n bytes of data that stand at place 3, and the checksum behind them if checksum is set. Answers the reply's length.
-pub fn seal(reply: &mut [u8], status: usize, n: usize, checksum: bool) -> usize
-    requires { (status < 256) × (n < 65536) × (n + 4 ≤ length reply.old) }
+// Puts the head before n bytes of data that stand at place 3, and the checksum behind them if
+// checksum is set. Answers the reply's length.
+pub fn seal(reply: &mut [u8], status: u8, n: usize, checksum: bool) -> usize
+    requires { (n < 65536) × (n + 4 ≤ length reply.old) }
     ensures { Overwrites result (reply_bytes checksum status (take n (drop 3 reply.old)))
         reply.old reply.new }
 {
-    wire::put_byte(reply, 0, status);
+    reply[0] = status;
     wire::put_word(reply, 1, n);
     if checksum {
         let check = wire::checksum(reply, n + 3);

@@ -3,16 +3,18 @@ use Prim.Native.Nat.{ℕ, zero, suc, ◌+◌, ◌-◌, ◌*◌, ◌/◌, ◌%◌
 use mathlib.Core.Path.{◌≡◌, refl, ap, ◌∙◌}
 use mathlib.Core.Bool.{Bool, true, false, cond}
 use mathlib.Core.List.{List, [], ◌∷◌}
-use native.Mathlib.Decide.{ℕ_discrete}
+use native.Mathlib.Decide.{ℕ_discrete, dec_lt}
 use native.Mathlib.Nat.{pow-suc, max-zero, div-div-eq-div-mul, pow-succ'}
 use native.Mathlib.Omega.{arith}
-use borrow.Author.Tests.{eq-eqb, ne_eqb}
+use borrow.Author.Tests.{eq-eqb, ne_eqb, lt-ltb, le-ltb}
 use lib.ListN.{length, get_or, set}
-use lib.Dec.{eqb}
+use lib.Dec.{eqb, ltb}
 use lib.Bits.{bit_and, bit_or, and_step, or_step, or_zero_r}
 use lib.Pow.{pow-lt, pow_pos}
 use lib.Count.{ones, ones_step, count_trailing_zeros}
-use Rattle.row_mark.specs.Bits.{bits_of, of_bits, bit_at, count_true, first_true}
+use Rattle.std.specs.Prelude.{Some, None}
+use Rattle.std.specs.Option.{unwrap_or}
+use Rattle.row_mark.specs.Bits.{bits_of, of_bits, bit_at, count_true, first_true, first_set}
 
 pub length-bits : (k n : ℕ) → length (bits_of k n) ≡ k
 unfolding bits_of
@@ -156,3 +158,12 @@ unfolding first_true
 first-few [] = omega arith
 first-few (true ∷ bs) = omega arith
 first-few (false ∷ bs) = omega (arith, first-few bs)
+
+-- The length in place of no bit.
+pub first-or : (k n : ℕ) → unwrap_or (first_set (bits_of k n)) k ≡ first_true (bits_of k n)
+first-or k n = rw length-bits (go (dec_lt (first_true (bits_of k n)) k))
+  where
+    go : Dec (first_true (bits_of k n) < k)
+        → unwrap_or (cond (ltb (first_true (bits_of k n)) k) (Some (first_true (bits_of k n))) None) k ≡ first_true (bits_of k n)
+    go (yes l) = rw (lt-ltb _ _ l)
+    go (no l) = rw (le-ltb (first_true (bits_of k n)) k (omega arith)) (omega (arith, first-few (bits_of k n), length-bits k n))

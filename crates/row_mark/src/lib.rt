@@ -44,6 +44,7 @@ fn put_bit(mark: u32, row: usize, moved: bool) -> u32
 }
 
 // How many rows are marked.
+#[tactic(auto, using(crate::proofs::Bits::count_ones))]
 pub fn count(mark: u32) -> u32
     ensures { result ≡ count_true (bits_of 32 mark) }
 {

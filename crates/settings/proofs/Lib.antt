@@ -6,3 +6,4 @@ pub mod Same
 pub mod Stays
 pub mod Allowed
 pub mod AfterReset
+pub mod Contains

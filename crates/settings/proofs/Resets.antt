@@ -1,12 +1,12 @@
 -- What reset stores comes to the block as it is defined: the first run leaves zeros, whatever stood there, and the rest is computed. A shape
 -- and its lists are stored number by number.
-use Prim.Native.Nat.{ℕ, zero, suc, ◌+◌, ◌*◌, ◌≤◌}
+use Prim.Native.Nat.{ℕ, zero, suc, ◌+◌, ◌*◌}
 use mathlib.Core.Path.{◌≡◌, refl, ap, ◌∙◌}
 use mathlib.Core.List.{List, [], ◌∷◌, ◌++◌}
 use native.Mathlib.Numerals.{add-one}
 use native.Mathlib.Omega.{arith}
-use borrow.Author.Fill.{fill_more}
-use lib.ListN.{length, drop, replicate, drop_of_length-le}
+use lib.ListN.{length, take, drop, replicate}
+use borrow.Rule.Slice.PartMut.{put_mid}
 use lib.Seq.{sets}
 use Rattle.wire.specs.Numbers.{word_bytes}
 use Rattle.wire.specs.Tables.{bytes}
@@ -49,17 +49,11 @@ module _ (d : List ℕ) (at : ℕ) {b₁ b₂ b₃ b₄ b₅ : List ℕ} where
       let e₄ = behind d b₃ b₄ at (at + 5) head (bytes (count_up 0 62)) e₃ h₄ refl in
       behind d b₄ b₅ at (at + 129) (head ++ bytes (count_up 0 62)) (bytes (count_up 0 32)) e₄ h₅ refl
 
-zeros-over : (d : List ℕ) (n : ℕ) → n ≤ length d → spread_over d 0 1 0 n ≡ replicate n 0 ++ drop n d
-unfolding spread_over
-zeros-over d zero h = refl
-zeros-over d (suc n) h =
-    let place : 0 + 1 * n ≡ n = omega arith in
-    rw (place, zeros-over d n (omega arith)) (rw (add-one n) at (fill_more n 0 d (omega arith)))
-
-over_zeros : spread_over (spread_over (sets (sets (replicate block_size 0) staged_shape reset_shape) live_shape reset_shape) smooth_table 1 3 2) pwm_place 6 20 12 ≡ reset_block
+-- What reset stores, of a block of zeros.
+pub over_zeros : spread_over
+    (put_mid smooth_table 2 (sets (sets (replicate block_size 0) staged_shape reset_shape) live_shape reset_shape)
+    (replicate (length (take 2 (drop smooth_table (sets (sets (replicate block_size 0) staged_shape reset_shape) live_shape reset_shape)))) 3))
+    pwm_place 6 20 12
+    ≡ reset_block
 unfolding spread_over reset_shape reset_block
 over_zeros = refl
-
-pub reset-over : (d : List ℕ) → length d ≡ block_size
-    → spread_over (spread_over (sets (sets (spread_over d 0 1 0 block_size) staged_shape reset_shape) live_shape reset_shape) smooth_table 1 3 2) pwm_place 6 20 12 ≡ reset_block
-reset-over d e = rw (zeros-over d block_size (omega arith), drop_of_length-le d {i = block_size} (omega arith)) over_zeros

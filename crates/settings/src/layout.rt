@@ -95,7 +95,7 @@ pub const UART_PORT_1: usize = UART_PORTS + UART_SIZE;
 
 pub const UART_PORT_2: usize = UART_PORT_1 + UART_SIZE;
 
-// Behind the settings: the row mark, in four bytes.
+// Behind the settings: the row mark.
 pub const ROW_MARK: usize = 865;
 
-pub const ROW_MARK_HIGH: usize = ROW_MARK + 2;
+pub const ROW_MARK_SIZE: usize = 4;

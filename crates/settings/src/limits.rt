@@ -17,6 +17,9 @@ pub const MOST_PARITY: u8 = opcode::limits::MOST_PARITY as u8;
 
 pub const MOST_TRIGGER: u8 = opcode::limits::MOST_TRIGGER as u8;
 
+// Rule 5.1, 39h: 0 alone is stored.
+pub const MOST_UPDATE: u8 = 0;
+
 pub use opcode::limits::{
     LEAST_FREQUENCY, LEAST_SHAPE, LEAST_SMOOTH, MOST_COLUMNS, MOST_FREQUENCY, MOST_ROWS,
     MOST_SMOOTH,

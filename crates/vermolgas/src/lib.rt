@@ -2,14 +2,19 @@
 // This is a library, whose contracts promises speaks of; vermolgas_c makes the static library of it.
 #![tactic(auto)]
 
-ghost use Rattle.std.specs.Prelude.{◌≡◌, not, eqb};
+ghost use Rattle.std.specs.Prelude.{◌≡◌, ◌+◌, ◌*◌, ◌<◌, ◌≤◌, not, eqb};
 ghost use Rattle.front_end_bytes.specs.Bytes.{lent, lent_reset};
 ghost use Rattle.front_end_bytes.specs.Promises.{ResetsBytes};
 ghost use Rattle.vermolgas.specs.Packed.{PackedRead, PackedMake, PackedReplyRead, PackedHandled};
 ghost use Rattle.vermolgas.specs.Packed.{PackedRows, PackedCompress, PackedSplit, PackedPlan};
 
-use packet::Reading;
-use reply::ReplyReading;
+// What making and a packet answer: status, length, and the place of the fault from bit 32 on.
+fn packed(status: u8, size: usize, place: usize) -> u64
+    requires { (size ≤ 512) × (place < 512) }
+    ensures { result ≡ status + 256 * size + 4294967296 * place }
+{
+    status as u64 + 256 * size as u64 + 4294967296 * place as u64
+}
 
 // Puts the block and all tables as they are after reset. The status is 0, or 1 for a wrong length.
 #[unsafe(no_mangle)]
@@ -41,16 +46,18 @@ pub extern "C" fn vermolgas_packet(
         result (lent block.new staged.new live.new gains.new) reply.new }
 {
     let o = front_end_bytes::handle(packet, block, staged, live, gains, reply);
-    o.why.number as u64 + 256 * o.size as u64 + 4294967296 * o.why.place as u64
+    packed(o.status(), o.size, o.place())
 }
 
-// How many rows are marked, and the lowest of them, of the mark as it lies.
+// How many rows are marked, and the lowest of them, of the mark as it lies. C is told 32 where none is.
 #[unsafe(no_mangle)]
 pub extern "C" fn vermolgas_rows(block: &[u8]) -> u64
     ensures { PackedRows block.now result }
 {
-    let r = front_end::mark::rows(block);
-    r.status as u64 + 256 * r.count as u64 + 65536 * r.lowest as u64
+    match front_end::mark::rows(block) {
+        Ok(rows) => 256 * rows.count as u64 + 65536 * rows.lowest.unwrap_or(32) as u64,
+        Err(why) => why.number() as u64,
+    }
 }
 
 // Reads a packet.
@@ -58,18 +65,15 @@ pub extern "C" fn vermolgas_rows(block: &[u8]) -> u64
 pub extern "C" fn vermolgas_read(packet: &[u8]) -> u64
     ensures { PackedRead packet.now result }
 {
-    let r = packet::read(packet);
-    let Reading::Command {
-        opcode,
-        options,
-        at,
-        size,
-    } = r
-    else {
-        let why = r.refusal();
-        return why.number as u64 + 4294967296 * why.place as u64;
-    };
-    256 * opcode as u64 + 65536 * options as u64 + 16777216 * at as u64 + 4294967296 * size as u64
+    match packet::read(packet) {
+        Ok(c) => {
+            256 * c.opcode as u64
+                + 65536 * c.options as u64
+                + 16777216 * c.at as u64
+                + 4294967296 * c.size as u64
+        }
+        Err(why) => why.number() as u64 + 4294967296 * why.place() as u64,
+    }
 }
 
 // Makes a packet in the buffer; of the options bits 3 to 7 count.
@@ -77,8 +81,10 @@ pub extern "C" fn vermolgas_read(packet: &[u8]) -> u64
 pub extern "C" fn vermolgas_make(opcode: u16, options: u8, data: &[u8], buffer: &mut [u8]) -> u64
     ensures { PackedMake opcode options «data».now buffer.old result buffer.new }
 {
-    let m = packet::make(opcode, options, data, buffer);
-    m.why.number as u64 + 256 * m.size as u64 + 4294967296 * m.why.place as u64
+    match packet::make(opcode, options, data, buffer) {
+        Ok(size) => packed(0, size, 0),
+        Err(why) => packed(why.number(), 0, why.place()),
+    }
 }
 
 // Reads a reply; a checksum is expected unless the second argument is 0.
@@ -86,16 +92,10 @@ pub extern "C" fn vermolgas_make(opcode: u16, options: u8, data: &[u8], buffer: 
 pub extern "C" fn vermolgas_read_reply(reply: &[u8], checksum: u8) -> u64
     ensures { PackedReplyRead reply.now (not (eqb checksum 0)) result }
 {
-    let r = reply::read_reply(reply, checksum != 0);
-    let ReplyReading::Reply {
-        status,
-        at: _,
-        size,
-    } = r
-    else {
-        return r.refusal() as u64;
-    };
-    256 * status as u64 + 65536 * size as u64
+    match reply::read_reply(reply, checksum != 0) {
+        Ok(r) => 256 * r.status as u64 + 65536 * r.size as u64,
+        Err(why) => why.number() as u64,
+    }
 }
 
 // Compresses gains: the fewest pairs of a run and a gain that stand for them.

@@ -20,7 +20,7 @@ pub const LONGEST: usize = 512;
 pub fn number(low: u8, high: u8) -> u16
     ensures { result ≡ low + 256 * high }
 {
-    low as u16 + 256 * (high as u16)
+    u16::from_le_bytes([low, high])
 }
 
 // The byte at i, 0 past the end: a place that a packet does not have needs no test of its own.
@@ -65,12 +65,10 @@ pub fn checksum(s: &[u8], n: usize) -> usize
 {
     let mut weight = (n % 256) as u16;
     let mut sum: usize = 0;
-    let mut i = 0;
-    while i < n {
+    for i in 0..n {
         sum = (sum + (weight * s[i] as u16) as usize) % 256;
         // One less.
         weight = (weight + 255) % 256;
-        i += 1;
     }
     sum
 }
@@ -80,11 +78,7 @@ pub fn copy(dst: &mut [u8], at: usize, src: &[u8], from: usize, n: usize)
     requires { (at + n ≤ length dst.old) × (from + n ≤ length src.now) }
     ensures { dst.new ≡ paste dst.old at (drop from src.now) n }
 {
-    let mut k = 0;
-    while k < n {
-        dst[at + k] = src[from + k];
-        k += 1;
-    }
+    dst[at..at + n].copy_from_slice(&src[from..from + n]);
 }
 
 // Stores a byte.
@@ -92,7 +86,7 @@ pub fn put_byte(dst: &mut [u8], at: usize, v: usize)
     requires { (at < length dst.old) × (v < 256) }
     ensures { dst.new ≡ sets dst.old at (v ∷ []) }
 {
-    dst[at] = (v % 256) as u8;
+    dst[at] = v as u8;
 }
 
 // Stores a 16-bit number, low byte first.
@@ -100,8 +94,7 @@ pub fn put_word(dst: &mut [u8], at: usize, v: usize)
     requires { (at + 1 < length dst.old) × (v < 65536) }
     ensures { dst.new ≡ sets dst.old at (word_bytes v) }
 {
-    dst[at] = (v % 256) as u8;
-    dst[at + 1] = (v / 256 % 256) as u8;
+    dst[at..at + 2].copy_from_slice(&(v as u16).to_le_bytes());
 }
 
 // The bytes from a place on, none past the end.

@@ -1,39 +1,34 @@
--- Each return is by one of the tests on whether the packet is answered; the last seals a reply with its place, where it has one.
-use Prim.Native.Nat.{◌-◌, ◌≤◌}
-use mathlib.Core.Path.{◌∙◌}
+-- No reply; or a reply with its place, where it has one, behind the head.
+use Prim.Native.Nat.{◌-◌}
+use mathlib.Core.Path.{◌≡◌, sym, ◌∙◌}
+use mathlib.Core.Bool.{true, false}
 use native.Mathlib.Omega.{arith}
 use lib.ListN.{length}
 use lib.Dec.{eqb}
+use Rattle.wire.specs.Refusals.{status_if, fault_if}
 use Rattle.opcode.specs.Options.{has_checksum}
+use Rattle.packet.specs.Frame.{header_of}
 use Rattle.reply.proofs.Laws.{lent-on}
-use Rattle.front_end.proofs.Replies.{no_byte, not-asked, stopped-1, asked, unanswered, answered-status, place-few}
-use Rattle.front_end.proofs.acknowledge.Goals.{After-put_place-n}
+use Rattle.front_end.specs.Step.{answers}
+use Rattle.front_end.proofs.Replies.{unanswered, answered-status, place-few}
 use Rattle.front_end.proofs.acknowledge.Goals as goal
 
--- A place has two bytes at most.
-placed : (c : After-put_place-n) → c.put_place-n.result ≤ 2
-placed c =
-    let args = c.args in
-    rw c.put_place-n.ensures.0 (place-few args.number args.place)
-
-pub returns-then-packet-eq0 : goal.returns-then-packet-eq0
-returns-then-packet-eq0 c = let args = c.args in
-    unanswered args.number args.place args.packet.now _ (no_byte args.number args.packet.now c.if-packet-eq0.true)
-
-pub returns-then-header-eq0 : goal.returns-then-header-eq0
-returns-then-header-eq0 c = let args = c.args in
-    unanswered args.number args.place args.packet.now _ (not-asked args.number args.packet.now (omega arith))
-
-pub returns-then-number-eq1 : goal.returns-then-number-eq1
-returns-then-number-eq1 c = let args = c.args in
-    unanswered args.number args.place args.packet.now _ (stopped-1 args.number args.packet.now c.if-number-eq1.true)
+pub returns-then-not-answers : goal.returns-then-not-answers
+returns-then-not-answers c = let args = c.args in
+    let n = status_if args.refused in
+    let none : answers n args.packet.now ≡ false = rw c.status-status.ensures at (sym c.answers.ensures ∙ c.if-not-answers.true) in
+    unanswered n (fault_if args.refused) args.packet.now _ none
 
 pub returns : goal.returns
 returns c = let args = c.args in
-    let same = answered-status args.number args.place args.packet.now
-    (asked args.number args.packet.now c.if-packet-eq0.false (λ e. c.if-header-eq0.false (omega arith)) c.if-number-eq1.false) in
+    let n = status_if args.refused in
+    let f = fault_if args.refused in
+    let some : answers n args.packet.now ≡ true = rw c.status-status.ensures at (sym c.answers.ensures ∙ c.if-not-answers.false) in
+    let same = answered-status n f args.packet.now some in
     let put = c.put_place-n.ensures in
+    let few = place-few n f in
     let lent = rw (← put.0) at
-    (lent-on _ args.reply.now c.put_place-n.new.out (length args.reply.now - 3) (omega (arith, placed (goal.at.returns c).After-put_place-n)) (omega arith) put.1 (eqb (has_checksum c.byte-header.result) 1) args.number) in
-    rw (same, ← c.byte-header.ensures.0)
-    (c.seal.ensures.0 ∙ lent.0, c.seal.ensures.1 ∙ lent.1)
+    (lent-on _ args.reply.now c.put_place-n.new.out (length args.reply.now - 3) (omega arith) (omega arith) put.1 (eqb (has_checksum (header_of args.packet.now)) 1) n) in
+    let sum : c.has_checksum.result ≡ eqb (has_checksum (header_of args.packet.now)) 1 = c.has_checksum.ensures ∙ rw c.header_of.ensures in
+    let sealed = rw (sum, c.status-status.ensures) at c.seal.ensures in
+    rw same (sealed.0 ∙ lent.0, sealed.1 ∙ lent.1)

@@ -6,16 +6,17 @@ use Rattle.reply.proofs.seal.Goals as goal
 
 pub returns-then-checksum : goal.returns-then-checksum
 returns-then-checksum c = let args = c.args in
+    let room = c.requires.1 in
     rw c.if-checksum.true (
-      omega (arith, sealed-length args.status args.n args.reply.now c.requires.2 true),
-      rw (c.put_byte-then-checksum.ensures, c.checksum-check.ensures.0)
-          (sealed-summed args.status args.n args.reply.now c.requires.2 c.put_word.new.dst
-          (rw c.put_byte.ensures at c.put_word.ensures)),
+      omega (arith, sealed-length args.status args.n args.reply.now room true),
+      rw (c.put_byte.ensures, c.checksum-check.ensures.0)
+          (sealed-summed args.status args.n args.reply.now room c.put_word.new.dst c.put_word.ensures),
     )
 
 pub returns : goal.returns
 returns c = let args = c.args in
+    let room = c.requires.1 in
     rw c.if-checksum.false (
-      omega (arith, sealed-length args.status args.n args.reply.now c.requires.2 false),
-      rw (c.put_word.ensures, c.put_byte.ensures) (sealed-plain args.status args.n args.reply.now c.requires.2),
+      omega (arith, sealed-length args.status args.n args.reply.now room false),
+      rw c.put_word.ensures (sealed-plain args.status args.n args.reply.now room),
     )

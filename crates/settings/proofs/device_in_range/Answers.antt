@@ -18,34 +18,30 @@ three : (fs : List Field) (d : List ℕ) (at : ℕ)
 unfolding right
 three fs d at = simp right-append
 
-joined : (fine e f g h k l m : Bool)
-    → (fine && (e && f && g && h && (k && (l && (m && true))))) ≡ (fine && e && f && g && h && k && l && m)
-joined fine e f g h k l m = simp (and_assoc, and-true)
+joined : (e f g h k l m : Bool) → (e && f && g && h && (k && (l && (m && true)))) ≡ (e && f && g && h && k && l && m)
+joined e f g h k l m = simp (and_assoc, and-true)
 
-parts : (d : List ℕ) (fine : Bool)
-    → (fine && right device_fields d update_place)
-    ≡ (fine && leb (byte_at d update_place) update_mode.high && right (for_each pin_count (behind_port 0x60)) d pin_place && right (for_each pwm_count (behind_port 0x65)) d pwm_place
+parts : (d : List ℕ)
+    → right device_fields d update_place
+    ≡ (leb (byte_at d update_place) update_mode.high && right (for_each pin_count (behind_port 0x60)) d pin_place && right (for_each pwm_count (behind_port 0x65)) d pwm_place
     && leb (byte_at d lock_place) 1 && right (behind_port 0x6D) d uart_place && right (behind_port 0x6D) d 845 && right (behind_port 0x6D) d (uart_place + 2 * uart_size))
 unfolding command_of
-parts d fine =
+parts d =
     rw (
       device-runs d,
       three (behind_port 0x6D) d uart_place,
       right-byte update_mode.high d update_place,
       right-byte 1 d lock_place,
     )
-    (joined fine (leb (byte_at d update_place) update_mode.high) (right (for_each pin_count (behind_port 0x60)) d pin_place) (right (for_each pwm_count (behind_port 0x65)) d pwm_place)
+    (joined (leb (byte_at d update_place) update_mode.high) (right (for_each pin_count (behind_port 0x60)) d pin_place) (right (for_each pwm_count (behind_port 0x65)) d pwm_place)
     (leb (byte_at d lock_place) 1) (right (behind_port 0x6D) d uart_place) (right (behind_port 0x6D) d (uart_place + uart_size)) (right (behind_port 0x6D) d (uart_place + 2 * uart_size)))
 
 pub returns : goal.returns
-returns c = let args = c.args in
-    rw (
-      c.uart_port_in_range.ensures,
-      c.uart_port_in_range-fine-2.ensures,
-      c.uart_port_in_range-fine.ensures,
-      c.up_to-fine-2.ensures,
-      c.pwm_in_range-fine.ensures,
-      c.pins_in_range-fine.ensures,
-      c.up_to-fine.ensures,
-    )
-    (sym (parts args.block.now args.fine))
+returns c = rw (
+  c.uart_port_in_range-3.ensures,
+  c.uart_port_in_range-2.ensures,
+  c.uart_port_in_range.ensures,
+  c.pwm_in_range.ensures,
+  c.pins_in_range.ensures,
+)
+    (sym (parts c.args.block.now))

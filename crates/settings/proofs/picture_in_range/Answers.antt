@@ -44,12 +44,4 @@ parts d b =
     (simp (and_assoc, and-true))
 
 pub returns : goal.returns
-returns c = rw (
-  c.up_to.ensures,
-  c.up_to-fine-4.ensures,
-  c.both-fine.ensures,
-  c.up_to-fine-3.ensures,
-  c.up_to-fine-2.ensures,
-  c.up_to-fine.ensures,
-)
-    (sym (parts c.args.block.now (λ k. (c.type_inv.block k).fits)))
+returns c = sym (parts c.args.block.now (λ k. (c.type_inv.block k).fits))

@@ -1,4 +1,4 @@
--- The loop keeps what the ports passed come to, joined to what is still to be judged.
+-- What the ports passed come to is joined to what is still to be judged.
 use Prim.Native.Nat.{◌+◌, ◌*◌}
 use mathlib.Core.Path.{◌≡◌, sym, ◌∙◌}
 use native.Mathlib.Omega.{arith}
@@ -14,9 +14,9 @@ loop-i-preserved c = let block = c.args.block.now in
     let i = c.loop-i.i in
     let next : pwm_place + pwm_size * i + 6 ≡ pwm_place + 6 * (i + 1) = omega arith in
     let turn = each_turn (behind_port 0x65) block c.loop-i.all i pwm_count (pwm_place + pwm_size * i) (omega arith) in
-    (omega arith, rw (c.pwm_port_in_range-all.ensures, ← next) (c.loop-i.invariant.1 ∙ turn))
+    rw (c.pwm_port_in_range-all.ensures, ← next) (c.loop-i.invariant ∙ turn)
 
 pub returns : goal.returns
 returns c = let block = c.args.block.now in
     let i = c.loop-i.i in
-    sym (c.loop-i.invariant.1 ∙ each-done (behind_port 0x65) block c.loop-i.all i pwm_count (pwm_place + pwm_size * i) (omega arith))
+    sym (c.loop-i.invariant ∙ each-done (behind_port 0x65) block c.loop-i.all i pwm_count (pwm_place + pwm_size * i) (omega arith))

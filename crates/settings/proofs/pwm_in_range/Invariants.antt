@@ -1,5 +1,5 @@
--- The loop keeps what the ports passed come to, joined to what is still to be judged.
-use Prim.Native.Nat.{◌+◌, ◌*◌, ◌-◌, ◌≤◌}
+-- What the ports passed come to is joined to what is still to be judged.
+use Prim.Native.Nat.{◌+◌, ◌*◌, ◌-◌}
 use mathlib.Core.Path.{◌≡◌}
 use mathlib.Core.Bool.{◌&&◌}
 use Rattle.settings.specs.Ranges.{right, behind_port, for_each}
@@ -7,8 +7,6 @@ use Rattle.settings.specs.Layout.{pwm_count, pwm_place, pwm_size}
 use Rattle.settings.proofs.pwm_in_range.Given as goal
 
 abbrev pub invariant-loop-i : goal.invariant-loop-i
-invariant-loop-i l = (l.i ≤ 12)
-    × ((l.fine && right (for_each pwm_count (behind_port 0x65)) l.block pwm_place) ≡ (l.all && right (for_each (pwm_count - l.i) (behind_port 0x65)) l.block (pwm_place + pwm_size * l.i)))
-
-abbrev pub decreases-loop-i : goal.decreases-loop-i
-decreases-loop-i l = 12 - l.i
+invariant-loop-i l =
+    right (for_each pwm_count (behind_port 0x65)) l.block pwm_place
+    ≡ (l.all && right (for_each (pwm_count - l.i) (behind_port 0x65)) l.block (pwm_place + pwm_size * l.i))

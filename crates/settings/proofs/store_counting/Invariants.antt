@@ -1,5 +1,4 @@
--- The loop keeps that the first i numbers are stored.
-use Prim.Native.Nat.{◌-◌, ◌≤◌}
+-- The first i numbers are stored.
 use mathlib.Core.Path.{◌≡◌}
 use lib.ListN.{length}
 use lib.Seq.{sets}
@@ -8,7 +7,4 @@ use Rattle.settings.specs.Reset.{count_up}
 use Rattle.settings.proofs.store_counting.Given as goal
 
 abbrev pub invariant-loop-i : goal.invariant-loop-i
-invariant-loop-i l = (l.i ≤ l.n) × (l.block ≡ sets l.initial.block l.place (bytes (count_up 0 l.i))) × (length l.block ≡ length l.initial.block)
-
-abbrev pub decreases-loop-i : goal.decreases-loop-i
-decreases-loop-i l = l.n - l.i
+invariant-loop-i l = (l.block ≡ sets l.initial.block l.place (bytes (count_up 0 l.i))) × (length l.block ≡ length l.initial.block)

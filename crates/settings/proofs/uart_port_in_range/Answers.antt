@@ -1,5 +1,6 @@
 -- Ten bytes from 0 on, one behind the other.
 use mathlib.Core.Path.{◌≡◌, refl, sym}
+use mathlib.Core.Bool.{true}
 use mathlib.Core.List.{[], ◌∷◌, map}
 use Rattle.opcode.specs.Fields.{byte}
 use Rattle.opcode.specs.Commands.{command_of}
@@ -13,17 +14,4 @@ fields = refl
 
 pub returns : goal.returns
 returns c = let args = c.args in
-    rw (
-      fields,
-      c.up_to.ensures,
-      c.up_to-fine-9.ensures,
-      c.up_to-fine-8.ensures,
-      c.up_to-fine-7.ensures,
-      c.up_to-fine-6.ensures,
-      c.up_to-fine-5.ensures,
-      c.up_to-fine-4.ensures,
-      c.up_to-fine-3.ensures,
-      c.up_to-fine-2.ensures,
-      c.up_to-fine.ensures,
-    )
-    (sym (bytes-first 1 (11 ∷ 3 ∷ 1 ∷ 2 ∷ 1 ∷ 4 ∷ 4 ∷ 1 ∷ 1 ∷ []) args.block.now args.fine args.at))
+    rw fields (sym (bytes-first 1 (11 ∷ 3 ∷ 1 ∷ 2 ∷ 1 ∷ 4 ∷ 4 ∷ 1 ∷ 1 ∷ []) args.block.now true args.at))

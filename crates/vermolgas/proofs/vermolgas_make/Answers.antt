@@ -1,30 +1,30 @@
--- Status, size and place are packed side by side: a made packet is no longer than 512 bytes, and a place lies within one.
-use Prim.Native.Nat.{◌≤◌, ◌<◌}
-use mathlib.Core.Path.{subst, sym}
+-- The size is packed behind the status: a made packet is no longer than 512 bytes. A refusal has its place, which lies within one, beside its number.
+use Prim.Native.Nat.{ℕ, ◌≤◌, ◌<◌}
+use mathlib.Core.List.{List}
+use mathlib.Core.Path.{◌≡◌, sym, subst}
 use native.Mathlib.Omega.{arith}
-use Rattle.packet.specs.Making.{Made}
+use Rattle.packet.specs.Making.{Made, made}
+use Rattle.packet.proofs.Frames.{refusal-few}
 use Rattle.packet.proofs.Within.{made-within}
 use Rattle.vermolgas.proofs.Packs.{make-packed}
-use Rattle.vermolgas.proofs.vermolgas_make.Goals.{After-struct_known-1}
 use Rattle.vermolgas.proofs.vermolgas_make.Goals as goal
 
-small : (c : After-struct_known-1) → (c.make-m.result.size ≤ 512) × (c.make-m.result.why.place < 512)
-small c =
-    let args = c.args in
-    subst (λ (m : Made). (m.size ≤ 512) × (m.fault-place < 512)) (sym c.make-m.ensures.outcome)
-    (made-within args.opcode args.options args.«data».now args.buffer.now)
+small : (op options : ℕ) (d buffer : List ℕ) (m : Made) → m ≡ made op options d buffer → (m.size ≤ 512) × (m.fault-place < 512)
+small op options d buffer m e = subst (λ (m : Made). (m.size ≤ 512) × (m.fault-place < 512)) (sym e) (made-within op options d buffer)
 
-pub overflow_mul-result : goal.overflow_mul-result
-overflow_mul-result c = omega (arith, small (goal.at.overflow_mul-result c).After-struct_known-1)
+pub packed-requires : goal.packed-requires
+packed-requires c = let s = small _ _ _ _ _ c.in-Ok.ensures.outcome in (s.0, omega arith)
 
-pub overflow_add-result : goal.overflow_add-result
-overflow_add-result c = omega (arith, small (goal.at.overflow_add-result c).After-struct_known-1)
+pub packed-requires-in-Err : goal.packed-requires-in-Err
+packed-requires-in-Err c = let s = small _ _ _ _ _ c.in-Err.ensures.outcome in (omega arith, omega (arith, s))
 
-pub overflow_mul-result-2 : goal.overflow_mul-result-2
-overflow_mul-result-2 c = omega (arith, small (goal.at.overflow_mul-result-2 c).After-struct_known-1)
+pub returns-in-Ok : goal.returns-in-Ok
+returns-in-Ok c =
+    let s = small _ _ _ _ _ c.in-Ok.ensures.outcome in
+    make-packed _ _ _ _ _ _ (omega (arith, c.packed.ensures)) (omega arith, omega (arith, s), omega arith) c.in-Ok.ensures
 
-pub overflow_add-result-2 : goal.overflow_add-result-2
-overflow_add-result-2 c = omega (arith, small (goal.at.overflow_add-result-2 c).After-struct_known-1)
-
-pub returns : goal.returns
-returns c = make-packed _ _ _ _ _ _ (omega arith) (omega arith, omega (arith, small (goal.at.returns c).After-struct_known-1), omega (arith, small (goal.at.returns c).After-struct_known-1)) c.make-m.ensures
+pub returns-in-Err : goal.returns-in-Err
+returns-in-Err c =
+    let few = refusal-few c.in-Err.why in
+    let s = small _ _ _ _ _ c.in-Err.ensures.outcome in
+    make-packed _ _ _ _ _ _ (omega (arith, c.packed-in-Err.ensures, c.number.ensures, c.place.ensures)) (omega (arith, few), omega arith, omega (arith, s)) c.in-Err.ensures

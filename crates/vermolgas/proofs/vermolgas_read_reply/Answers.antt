@@ -10,20 +10,22 @@ use Rattle.reply.proofs.Within.{reply-within}
 use Rattle.vermolgas.proofs.Packs.{reply-packed}
 use Rattle.vermolgas.proofs.vermolgas_read_reply.Goals as goal
 
--- What the pattern took apart is what reply reading gives.
+-- What reply reading gives is no longer than a reply.
 small : (r : List ℕ) (sum : Bool) (a : ReplyAnswer) → a ≡ reply_reading r sum → a.size ≤ 512
 small r sum a e = subst (λ (a : ReplyAnswer). a.size ≤ 512) (sym e) (reply-within r sum)
 
-pub returns-in_default : goal.returns-in_default
-returns-in_default c = let number = rw c.in_default.is at c.refusal.ensures in
-    reply-packed _ _ _ _ (omega arith) (omega arith, omega arith, omega arith) (rw (← number) at c.in_default.ensures)
-
-pub overflow_mul-result-2 : goal.overflow_mul-result-2
-overflow_mul-result-2 c = omega (arith, small _ _ _ c.in-Reply.ensures.outcome)
+pub overflow_mul-result-in-Ok : goal.overflow_mul-result-in-Ok
+overflow_mul-result-in-Ok c = omega (arith, small _ _ _ c.in-Ok.ensures.outcome)
 
 pub overflow_add-result : goal.overflow_add-result
-overflow_add-result c = omega (arith, small _ _ _ c.in-Reply.ensures.outcome)
+overflow_add-result c = omega (arith, small _ _ _ c.in-Ok.ensures.outcome)
 
-pub returns : goal.returns
-returns c =
-    reply-packed _ _ _ _ (omega arith) (omega arith, omega arith, omega (arith, small _ _ _ c.in-Reply.ensures.outcome)) c.in-Reply.ensures
+pub returns-in-Ok : goal.returns-in-Ok
+returns-in-Ok c =
+    let s = small _ _ _ c.in-Ok.ensures.outcome in
+    reply-packed _ _ _ _ (omega arith) (omega arith, omega arith, omega (arith, s)) c.in-Ok.ensures
+
+pub returns-in-Err : goal.returns-in-Err
+returns-in-Err c =
+    reply-packed _ _ _ _ (omega (arith, c.number.ensures)) (omega (arith, c.number.ensures), omega arith, omega arith)
+    c.in-Err.ensures

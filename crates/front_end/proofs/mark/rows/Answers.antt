@@ -1,6 +1,7 @@
 -- The language's counts of the mark's bits.
 use borrow.Author.Tests.{eq-eqb, ne_eqb}
-use Rattle.front_end.specs.Mark.{rows_told}
+use Rattle.row_mark.proofs.Bits.{first-or}
+use Rattle.front_end.specs.Mark.{mark_at, rows_told}
 use Rattle.front_end.proofs.Fresh.{mark-small, rows-promised}
 use Rattle.front_end.proofs.mark.rows.Goals as goal
 
@@ -12,4 +13,4 @@ pub returns : goal.returns
 unfolding rows_told
 returns c = let block = c.args.block.now in
     rows-promised block (mark-small block (λ k. (c.type_inv.block k).fits)) _ _ _
-    (rw (eq-eqb _ _ c.if-block-ne-BLOCK_SIZE.false, c.lowest.ensures, c.count.ensures, c.read-mark.ensures))
+    (rw (eq-eqb _ _ c.if-block-ne-BLOCK_SIZE.false, c.lowest.ensures, c.count.ensures, c.read-mark.ensures, first-or 32 (mark_at block)))

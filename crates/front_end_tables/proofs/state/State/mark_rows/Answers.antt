@@ -1,0 +1,1 @@
+-- The mark, where there is one, is put into the block.
