@@ -1,12 +1,11 @@
 -- When a packet is answered, and with what: an accepted read with its data, refusal 10 with its place, whatever else with none. Each law turns one of the tests on
 -- length, header bits and number into its value.
-use Prim.Native.Nat.{ℕ, ◌+◌, ◌*◌, ◌/◌, ◌%◌, ◌≤◌, ◌<◌}
+use Prim.Native.Nat.{ℕ, ◌≤◌, ◌<◌}
 use mathlib.Core.Path.{◌≡◌, refl}
-use mathlib.Core.Bool.{Bool, true, false, cond, ◌||◌, and-false}
+use mathlib.Core.Bool.{Bool, true, false, cond}
 use mathlib.Core.List.{List, []}
-use native.Mathlib.Decide.{ℕ_discrete}
 use native.Mathlib.Omega.{arith}
-use borrow.Author.Tests.{lt-ltb, ne_eqb}
+use borrow.Author.Tests.{lt-ltb}
 use lib.ListN.{length}
 use lib.Dec.{eqb}
 use Rattle.wire.specs.declared.refusal.Refusal.{Refusal}
@@ -14,7 +13,7 @@ use Rattle.wire.specs.declared.refusal.Refusal.TheVariants.{LentWrong, TooShort,
 use Rattle.wire.specs.Refusals.{number_of, place_of}
 use Rattle.wire.specs.Buffers.{over}
 use Rattle.wire.specs.Numbers.{word_bytes}
-use Rattle.opcode.specs.Options.{has_checksum, asks_reply, is_read}
+use Rattle.opcode.specs.Options.{has_checksum}
 use Rattle.packet.specs.Frame.{header_of, opcode_of, data_of}
 use Rattle.reply.specs.Reply.{reply_bytes}
 use Rattle.front_end.specs.State.{State}

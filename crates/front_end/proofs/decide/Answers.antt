@@ -1,6 +1,5 @@
 -- A refusal of reading stands; the command that reading gives is placed on the part of the packet
 -- that holds its data.
-use Prim.Native.Nat.{◌+◌, ◌-◌}
 use mathlib.Core.Path.{◌≡◌}
 use native.Mathlib.Omega.{arith}
 use Rattle.std.proofs.Common.{Err}
