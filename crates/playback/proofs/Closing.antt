@@ -8,6 +8,7 @@ use borrow.Author.Tests.{eq-eqb, ne_eqb, le-leb, lt-leb, lt-ltb, le-ltb}
 use lib.ListN.{length}
 use lib.Seq.{length-sets}
 use Rattle.text.specs.Text.{decimal, Puts}
+use Rattle.session_file.specs.Windows.{matched_of}
 use Rattle.playback.specs.declared.Progress.{Progress}
 use Rattle.playback.specs.Replay.{cut_word, cut_text, end_line, not_a_session, closing}
 use Rattle.playback.specs.Windows.{most_records, closing_room, closing_text}
@@ -40,10 +41,10 @@ module _ (p : Progress) (out : List ℕ) where
   closing-most h = rw (le-ltb p.number most_records h, and-false)
 
   module _ (room : closing_room ≤ length out) (few : p.number < most_records) where
-    pub closing-none : (p.matched ≡ 5 → ⊥) → closing_text p out ≡ not_a_session
+    pub closing-none : (matched_of p.matched ≡ 5 → ⊥) → closing_text p out ≡ not_a_session
     unfolding closing
-    closing-none h = rw (le-leb closing_room (length out) room, lt-ltb p.number most_records few, ne_eqb p.matched 5 h)
+    closing-none h = rw (le-leb closing_room (length out) room, lt-ltb p.number most_records few, ne_eqb (matched_of p.matched) 5 h)
 
-    pub closing_lines : p.matched ≡ 5 → closing_text p out ≡ cut_text p.number p.have ++ end_line p.number
+    pub closing_lines : matched_of p.matched ≡ 5 → closing_text p out ≡ cut_text p.number p.have ++ end_line p.number
     unfolding closing
-    closing_lines h = rw (le-leb closing_room (length out) room, lt-ltb p.number most_records few, eq-eqb p.matched 5 h)
+    closing_lines h = rw (le-leb closing_room (length out) room, lt-ltb p.number most_records few, eq-eqb (matched_of p.matched) 5 h)

@@ -4,14 +4,17 @@
 ghost use Rattle.std.specs.Prelude.{◌+◌, ◌≤◌, ◌<◌, ◌≡◌, length, take};
 ghost use Rattle.text.specs.Text.{decimal, hex, Puts};
 ghost use Rattle.text.specs.Plain.{Decimal, Hex};
-ghost use Rattle.front_end.specs.State.{state, reply_room};
+ghost use Rattle.front_end.specs.State.{reply_room};
+ghost use Rattle.front_end.specs.Step.{step};
 ghost use Rattle.session_file.specs.Windows.{kept_size, most_record};
+ghost use Rattle.playback.specs.Device.{state_of, step_of, StillLent};
 ghost use Rattle.playback.specs.Replay.{line, cut_text, end_line};
 ghost use Rattle.playback.specs.WholeFiles.{WholeFiles};
 ghost use Rattle.playback.specs.Windows.{line_room, most_records, «has_room», «rooms_right», Answered, Turned, WindowReplayed};
 ghost use Rattle.playback.specs.Windows.{cut_room, closing_room, closing_text, unreadable_text};
 
-use front_end::REPLY_ROOM;
+use front_end::{Outcome, REPLY_ROOM};
+use session_file::{KEPT_SIZE, MOST_RECORD, Preamble};
 
 // Room for any line: two numbers, 512 bytes in hex, a blank and a newline.
 pub const LINE_ROOM: usize = 1578;
@@ -27,9 +30,44 @@ const MOST_RECORDS: u64 = u64::MAX;
 pub struct Progress {
     pub at: usize,
     pub size: usize,
-    pub matched: usize,
+    pub matched: Preamble,
     pub number: u64,
     pub have: usize,
+}
+
+// What packets are handled on: the lists of a state, and the reply buffer, lent to a replay.
+#[derive(Drop)]
+pub struct Device<'a> {
+    pub block: &'a mut [u8],
+    pub staged: &'a mut [u16],
+    pub live: &'a mut [u16],
+    pub gains: &'a mut [u16],
+    pub reply: &'a mut [u8],
+}
+
+impl Device<'_> {
+    // A packet, to the front end.
+    fn handle(&mut self, packet: &[u8]) -> Outcome
+        ensures outcome { step_of result self.new ≡ step packet.now (state_of self.old) self.old.reply.now }
+        ensures same { StillLent self.old self.new }
+    {
+        front_end_numbers::handle(
+            packet,
+            self.block,
+            self.staged,
+            self.live,
+            self.gains,
+            self.reply,
+        )
+    }
+
+    // The first bytes of the reply buffer.
+    fn replied(&self, size: usize) -> &[u8]
+        requires { size ≤ length self.now.reply.now }
+        ensures { result.now ≡ take size self.now.reply.now }
+    {
+        &self.reply[..size]
+    }
 }
 
 // Replays a window from its start, behind what came before it, and prints over the start of the
@@ -39,57 +77,39 @@ pub fn replay(
     window: &[u8],
     from: Progress,
     kept: &mut [u8],
-    block: &mut [u8],
-    staged: &mut [u16],
-    live: &mut [u16],
-    gains: &mut [u16],
-    reply: &mut [u8],
+    device: &mut Device,
     out: &mut [u8],
 ) -> Progress
-    ensures { WindowReplayed window.now from kept.old
-        (state block.old staged.old live.old gains.old) reply.old out.old
-        result kept.new (state block.new staged.new live.new gains.new) reply.new out.new }
+    ensures replayed { WindowReplayed window.now from kept.old (state_of device.old) device.old.reply.now out.old
+        result kept.new (state_of device.new) device.new.reply.now out.new }
+    ensures same { StillLent device.old device.new }
 {
     let mut p = Progress {
         at: 0,
         size: 0,
-        matched: from.matched,
-        number: from.number,
-        have: from.have,
+        ..from
     };
-    if !rooms_right(kept, reply, from.have) {
+    if !rooms_right(kept, device, from.have) {
         return p;
     }
     while p.at < window.len() && has_room(p.size, p.number, out) {
-        p = turn(window, p, kept, block, staged, live, gains, reply, out);
+        p = turn(window, p, kept, device, out);
     }
     p
 }
 
 // Whether what is lent is long enough, and what is under way no longer than a record.
-fn rooms_right(kept: &[u8], reply: &[u8], have: usize) -> bool
-    ensures { result ≡ «rooms_right» kept.now reply.now have }
+fn rooms_right(kept: &[u8], device: &Device, have: usize) -> bool
+    ensures { result ≡ «rooms_right» kept.now device.now.reply.now have }
 {
-    if kept.len() < session_file::KEPT_SIZE {
-        return false;
-    }
-    if reply.len() < REPLY_ROOM {
-        return false;
-    }
-    have <= session_file::MOST_RECORD
+    KEPT_SIZE <= kept.len() && REPLY_ROOM <= device.reply.len() && have <= MOST_RECORD
 }
 
 // Whether another line can be printed, and its record counted.
 fn has_room(size: usize, number: u64, out: &[u8]) -> bool
     ensures { result ≡ «has_room» size number out.now }
 {
-    if out.len() < LINE_ROOM {
-        return false;
-    }
-    if out.len() - LINE_ROOM < size {
-        return false;
-    }
-    number < MOST_RECORDS
+    LINE_ROOM <= out.len() && size <= out.len() - LINE_ROOM && number < MOST_RECORDS
 }
 
 // Some bytes of the window, and the line of a record that has become whole by them.
@@ -97,86 +117,59 @@ fn turn(
     window: &[u8],
     p: Progress,
     kept: &mut [u8],
-    block: &mut [u8],
-    staged: &mut [u16],
-    live: &mut [u16],
-    gains: &mut [u16],
-    reply: &mut [u8],
+    device: &mut Device,
     out: &mut [u8],
 ) -> Progress
-    requires { (p.at < length window.now) × (kept_size ≤ length kept.old) × (reply_room ≤ length reply.old)
+    requires { (p.at < length window.now) × (kept_size ≤ length kept.old) × (reply_room ≤ length device.old.reply.now)
         × (p.have ≤ most_record) × (p.size + line_room ≤ length out.old) × (p.number < most_records) }
-    ensures { Turned window.now p kept.old
-        (state block.old staged.old live.old gains.old) reply.old out.old
-        result kept.new (state block.new staged.new live.new gains.new) reply.new out.new }
+    ensures turned { Turned window.now p kept.old (state_of device.old) device.old.reply.now out.old
+        result kept.new (state_of device.new) device.new.reply.now out.new }
+    ensures same { StillLent device.old device.new }
 {
-    let at = p.at;
-    let t = session_file::next(window, at, p.matched, p.have, kept);
+    let rest = &window[p.at..];
+    let t = session_file::next(rest, p.matched, p.have, kept);
     let q = Progress {
-        at: t.at,
-        size: p.size,
+        at: p.at + t.size,
         matched: t.matched,
-        number: p.number,
         have: t.have,
+        ..p
     };
-    if t.place == session_file::NOWHERE {
-        return q;
+    match t.found {
+        None => q,
+        Some(found) => answer(found.packet(rest, kept), q, device, out),
     }
-    let start = t.start;
-    let end = t.end;
-    if t.place == session_file::IN_WINDOW {
-        return answer(
-            &window[start..end],
-            q,
-            block,
-            staged,
-            live,
-            gains,
-            reply,
-            out,
-        );
-    }
-    answer(&kept[start..end], q, block, staged, live, gains, reply, out)
 }
 
 // The packet of a record: to the front end, and its line to the output.
-fn answer(
-    packet: &[u8],
-    q: Progress,
-    block: &mut [u8],
-    staged: &mut [u16],
-    live: &mut [u16],
-    gains: &mut [u16],
-    reply: &mut [u8],
-    out: &mut [u8],
-) -> Progress
+fn answer(packet: &[u8], q: Progress, device: &mut Device, out: &mut [u8]) -> Progress
     requires { (q.size + line_room ≤ length out.old) × (q.number < most_records) }
-    ensures { Answered packet.now q (state block.old staged.old live.old gains.old)
-        reply.old out.old result (state block.new staged.new live.new gains.new) reply.new out.new }
+    ensures answered { Answered packet.now q (state_of device.old) device.old.reply.now out.old
+        result (state_of device.new) device.new.reply.now out.new }
+    ensures same { StillLent device.old device.new }
 {
-    let o = front_end_numbers::handle(packet, block, staged, live, gains, reply);
+    let o = device.handle(packet);
     let number = q.number + 1;
-    let size = put_line(out, q.size, number, o.why.number as u64, reply, o.size);
-    Progress {
-        at: q.at,
-        size,
-        matched: q.matched,
+    let size = put_line(
+        out,
+        q.size,
         number,
-        have: q.have,
-    }
+        o.why.number as u64,
+        device.replied(o.size),
+    );
+    Progress { size, number, ..q }
 }
 
-// Number, status, and the first n bytes of the reply.
-fn put_line(out: &mut [u8], at: usize, number: u64, status: u64, reply: &[u8], n: usize) -> usize
-    requires { (at + line_room ≤ length out.old) × (n ≤ length reply.now) × (n ≤ reply_room) }
-    ensures { Puts at (line number status (take n reply.now)) out.old out.new result
+// Number, status, and the reply.
+fn put_line(out: &mut [u8], at: usize, number: u64, status: u64, reply: &[u8]) -> usize
+    requires { (at + line_room ≤ length out.old) × (length reply.now ≤ reply_room) }
+    ensures { Puts at (line number status reply.now) out.old out.new result
         × (result ≤ at + line_room) × Decimal number (decimal number) × Decimal status (decimal status)
-        × Hex (take n reply.now) (hex (take n reply.now)) }
+        × Hex reply.now (hex reply.now) }
 {
     let behind_number = text::put_number(out, at, number);
     let behind_blank = text::put_text(out, behind_number, b" ");
     let behind_status = text::put_number(out, behind_blank, status);
-    let behind_reply = text::put_hex(out, behind_status, reply, n);
+    let behind_reply = text::put_hex(out, behind_status, reply);
     text::put_text(out, behind_reply, b"\n")
 }
 
@@ -191,7 +184,7 @@ pub fn finish(p: Progress, out: &mut [u8]) -> usize
     if MOST_RECORDS <= p.number {
         return 0;
     }
-    if p.matched != session_file::PREAMBLE_SIZE {
+    if !p.matched.is_whole() {
         return text::put_text(out, 0, b"not a session\n");
     }
     let at = put_cut(out, p.number, p.have);

@@ -17,18 +17,26 @@ use Rattle.session_file.specs.declared.Found.{Found}
 use Rattle.session_file.specs.declared.Found.TheVariants.{Window, Kept}
 use Rattle.session_file.specs.declared.Taken.{Taken}
 use Rattle.session_file.specs.Session.{Run, run, preamble, matched_by, taken}
-use Rattle.session_file.specs.Windows.{most_record, matched_of, ReaderStands, Within, found, Went, Follows, ReaderStep}
-use Rattle.session_file.specs.Windows.{nothing, whole_numbers, preamble_by, whole_record, taking, kept_after, after_taking, lies_whole}
+use Rattle.session_file.specs.Windows.{most_record, matched_of, ReaderStands, Lies, Within, found, Went, Follows, ReaderStep}
+use Rattle.session_file.specs.Windows.{nothing, whole_numbers, preamble_by, whole_record, taking, kept_after, is_cut, after_taking, lies_whole}
 use Rattle.session_file.specs.Windows.{record_kept, record_taken, next_kept, next_taken}
 use Rattle.session_file.proofs.Runs.{reaches, recorded-whole, grown-preamble, taken-spoiled}
 use Rattle.session_file.proofs.Kept.{take-least, behind-two, length-kept, went-more}
 
 -- ---- Places.
 
+or_none : (a b : Bool) → (a || b) ≡ false → a ≡ false
+or_none false b e = refl
+or_none true b e = e
+
 within_none : (window : List ℕ) (size : ℕ) (matched : Preamble) (have : ℕ) (kept : List ℕ) → 0 < size → size ≤ length window → have ≤ most_record
     → Within window (nothing size matched have) kept
 within_none window size matched have kept some le most =
-    record { some = some; inside = le; have-most = most; in_window = λ q. absurd cc; in_kept = λ q. absurd cc }
+    record { some = some; inside = le; have-most = most; lies = λ q. absurd cc }
+
+-- A place that is known to be another.
+lies-as : {f g : Found} (window kept : List ℕ) → Some f ≡ Some g → Lies f window kept → Lies g window kept
+lies-as {f} {g} window kept e l = let same : f ≡ g = cc in subst (λ (h : Found). Lies h window kept) same l
 
 within-whole : (window : List ℕ) (size : ℕ) (kept : List ℕ) → 2 + size ≤ length window → Within window (whole_record size) kept
 within-whole window size kept le =
@@ -36,31 +44,20 @@ within-whole window size kept le =
       some = omega arith;
       inside = le;
       have-most = omega arith;
-      in_window = λ {start} {end} q. let s : 2 ≡ start = cc in let e : 2 + min size 513 ≡ end = cc in (omega arith, omega arith);
-      in_kept = λ q. absurd cc;
+      lies = λ q. lies-as window kept q (omega arith, omega arith);
     }
 
 within_more : (window : List ℕ) (size have : ℕ) (kept : List ℕ) → 0 < size → size ≤ length window → 515 ≤ length kept
     → (after_taking size have kept).have ≤ most_record → Within window (after_taking size have kept) kept
 unfolding after_taking
-within_more window size have kept some le room most = go (ltb have 2) (ltb have (2 + word_at kept 0)) refl refl most
+within_more window size have kept some le room most = go (is_cut have kept) refl most
   where
-    go : (a b : Bool) → ltb have 2 ≡ a → ltb have (2 + word_at kept 0) ≡ b
-        → (cond (a || b) (nothing size (Matched 5) have) (whole_numbers size (Kept 2 (min have 515)))).have ≤ most_record
-        → Within window (cond (a || b) (nothing size (Matched 5) have) (whole_numbers size (Kept 2 (min have 515)))) kept
-    go true b e f m = within_none window size (Matched 5) have kept some le m
-    go false true e f m = within_none window size (Matched 5) have kept some le m
-    go false false e f m =
-        record {
-          some = some;
-          inside = le;
-          have-most = omega arith;
-          in_window = λ q. absurd cc;
-          in_kept =
-              λ {start} {end} q.
-              let s : 2 ≡ start = cc in
-              let l : min have 515 ≡ end = cc in (omega (arith, ltb-false have 2 e), omega arith);
-        }
+    go : (b : Bool) → is_cut have kept ≡ b → (cond b (nothing size (Matched 5) have) (whole_numbers size (Kept 2 (min have 515)))).have ≤ most_record
+        → Within window (cond b (nothing size (Matched 5) have) (whole_numbers size (Kept 2 (min have 515)))) kept
+    go true e m = within_none window size (Matched 5) have kept some le m
+    go false e m =
+        let two = ltb-false have 2 (or_none (ltb have 2) (ltb have (2 + word_at kept 0)) e) in
+        record { some = some; inside = le; have-most = omega arith; lies = λ q. lies-as window kept q (omega arith, omega arith) }
 
 -- ---- The run.
 

@@ -40,13 +40,16 @@ abbrev pub found : Found → List ℕ → List ℕ → List ℕ
 found (Window start end) window kept = take (end - start) (drop start window)
 found (Kept start end) window kept = take (end - start) (drop start kept)
 
+abbrev pub Lies : Found → List ℕ → List ℕ → Type 0
+Lies (Window start end) window kept = (start ≤ end) × (end ≤ length window)
+Lies (Kept start end) window kept = (start ≤ end) × (end ≤ length kept)
+
 -- A step takes at least a byte, stays in the window, and answers places that are there.
 pub record Within (window : List ℕ) (t : Taken) (kept : List ℕ) : Type 0 where
   pub some : 0 < t.size
   pub inside : t.size ≤ length window
   pub have-most : t.have ≤ most_record
-  pub in_window : {start end : ℕ} → t.found ≡ Some (Window start end) → (start ≤ end) × (end ≤ length window)
-  pub in_kept : {start end : ℕ} → t.found ≡ Some (Kept start end) → (start ≤ end) × (end ≤ length kept)
+  pub lies : {f : Found} → t.found ≡ Some f → Lies f window kept
 
 -- Rules 9.1, 9.5 and 9.6: the run has taken the front of the window. Either no record became whole, or one did, the last, and its packet, of which
 -- no more than 513 bytes, is found.

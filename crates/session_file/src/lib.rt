@@ -2,11 +2,11 @@
 // of a window, and tells where a record that has become whole stands.
 #![tactic(auto)]
 
-ghost use Rattle.std.specs.Prelude.{◌+◌, ◌-◌, ◌≤◌, ◌<◌, ◌≡◌, true, length, take, get_or};
+ghost use Rattle.std.specs.Prelude.{◌+◌, ◌-◌, ◌≤◌, ◌<◌, ◌≡◌, true, eqb, length, take, get_or};
 ghost use Rattle.wire.specs.Numbers.{word_at};
 ghost use Rattle.session_file.specs.Session.{preamble, preamble_size, Files};
-ghost use Rattle.session_file.specs.Windows.{kept_size, most_record, ReaderStep, nothing, preamble_by};
-ghost use Rattle.session_file.specs.Windows.{whole_record, lacking, taking, kept_after, after_taking};
+ghost use Rattle.session_file.specs.Windows.{kept_size, most_record, ReaderStep, matched_of, found, Lies};
+ghost use Rattle.session_file.specs.Windows.{nothing, preamble_by, whole_record, lacking, taking, kept_after, after_taking};
 ghost use Rattle.session_file.specs.Windows.{«lies_whole», «is_cut», whole_numbers};
 
 // Bytes of preamble.
@@ -30,11 +30,36 @@ pub enum Preamble {
     Spoiled,
 }
 
+impl Preamble {
+    // Whether all of them are.
+    pub fn is_whole(self) -> bool
+        ensures { result ≡ eqb (matched_of self) preamble_size }
+    {
+        match self {
+            Preamble::Matched(n) => n == PREAMBLE_SIZE,
+            Preamble::Spoiled => false,
+        }
+    }
+}
+
 // Where the packet of a whole record stands: in the window, or in what is kept.
 #[derive(Clone, Copy)]
 pub enum Found {
     Window { start: usize, end: usize },
     Kept { start: usize, end: usize },
+}
+
+impl Found {
+    // The packet.
+    pub fn packet<'a>(self, window: &'a [u8], kept: &'a [u8]) -> &'a [u8]
+        requires { Lies self window.now kept.now }
+        ensures { result.now ≡ found self window.now kept.now }
+    {
+        match self {
+            Found::Window { start, end } => &window[start..end],
+            Found::Kept { start, end } => &kept[start..end],
+        }
+    }
 }
 
 // What a step took: so many bytes of the window; how much there is then of the preamble and of the

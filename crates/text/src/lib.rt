@@ -67,18 +67,16 @@ fn store_pair(out: &mut [u8], at: usize, v: u64)
     out[at + 1] = digit(v % 10);
 }
 
-// The first n bytes in hex, upper case, a blank before each: rule 9.2.
-pub fn put_hex(out: &mut [u8], at: usize, bytes: &[u8], n: usize) -> usize
-    requires { (n ≤ length bytes.now) × (at + 3 * n ≤ length out.old) }
-    ensures { Puts at (hexOf (take n bytes.now)) out.old out.new result
-        × (result ≡ at + 3 * n) × Hex (take n bytes.now) (hexOf (take n bytes.now)) }
+// Bytes in hex, upper case, a blank before each: rule 9.2.
+pub fn put_hex(out: &mut [u8], at: usize, bytes: &[u8]) -> usize
+    requires { at + 3 * length bytes.now ≤ length out.old }
+    ensures { Puts at (hexOf bytes.now) out.old out.new result
+        × (result ≡ at + 3 * length bytes.now) × Hex bytes.now (hexOf bytes.now) }
 {
     let mut end = at;
-    let mut i = 0;
-    while i < n {
-        store_hex(out, end, bytes[i]);
+    for b in bytes {
+        store_hex(out, end, *b);
         end += 3;
-        i += 1;
     }
     end
 }

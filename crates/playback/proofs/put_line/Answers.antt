@@ -12,7 +12,7 @@ returns c = let number = c.put_number-behind_number.ensures in
     let reply = c.put_hex-behind_reply.ensures in
     let newline = c.put_text.ensures in (
       puts-behind (puts-behind (puts-behind (puts-behind number.0 blank) status.0) reply.0) newline,
-      omega (arith, number.1, blank.ends, status.1, reply.1, newline.ends, c.requires.2),
+      omega (arith, number.1, blank.ends, status.1, reply.1, newline.ends, c.requires.1),
       number.2,
       status.2,
       reply.2,

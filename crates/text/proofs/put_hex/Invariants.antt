@@ -1,10 +1,6 @@
--- The loop keeps that the text of the first i bytes stands in the buffer.
-use Prim.Native.Nat.{◌-◌}
+-- The loop keeps that the text of the first bytes stands in the buffer.
 use Rattle.text.proofs.Bytes.{Writing}
 use Rattle.text.proofs.put_hex.Given as goal
 
-abbrev pub invariant-loop-i : goal.invariant-loop-i
-invariant-loop-i l = Writing l.initial.out l.at l.bytes l.n l.out l.end l.i
-
-abbrev pub decreases-loop-i : goal.decreases-loop-i
-decreases-loop-i l = l.n - l.i
+abbrev pub invariant-loop-b : goal.invariant-loop-b
+invariant-loop-b l = Writing l.initial.out l.at l.bytes l.out l.end l.b-index
