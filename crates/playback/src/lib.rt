@@ -4,7 +4,8 @@
 ghost use Rattle.std.specs.Prelude.{◌+◌, ◌≤◌, ◌<◌, ◌≡◌, length, take};
 ghost use Rattle.text.specs.Text.{decimal, hex, Puts};
 ghost use Rattle.text.specs.Plain.{Decimal, Hex};
-ghost use Rattle.front_end.specs.State.{reply_room};
+ghost use Rattle.front_end.specs.State.{reply_room, reset_out};
+ghost use Rattle.front_end.specs.Demands.{Resets};
 ghost use Rattle.front_end.specs.Step.{step};
 ghost use Rattle.session_file.specs.Windows.{kept_size, most_record};
 ghost use Rattle.playback.specs.Device.{state_of, step_of, StillLent};
@@ -46,6 +47,14 @@ pub struct Device<'a> {
 }
 
 impl Device<'_> {
+    // The state that a session begins with, where the lists are as long as they are to be.
+    pub fn reset(&mut self) -> u8
+        ensures reset { Resets (state_of self.old) (reset_out result (state_of self.new)) }
+        ensures same { StillLent self.old self.new }
+    {
+        front_end_numbers::reset(self.block, self.staged, self.live, self.gains)
+    }
+
     // A packet, to the front end.
     fn handle(&mut self, packet: &[u8]) -> Outcome
         ensures outcome { step_of result self.new ≡ step packet.now (state_of self.old) self.old.reply.now }
