@@ -4,6 +4,7 @@
 ghost use Rattle.std.specs.Prelude.{◌+◌, ◌≤◌, ◌<◌, ◌≡◌, length, take};
 ghost use Rattle.text.specs.Text.{decimal, hex, Puts};
 ghost use Rattle.text.specs.Plain.{Decimal, Hex};
+ghost use Rattle.text.specs.Page.{PutOn};
 ghost use Rattle.front_end.specs.State.{reply_room, reset_out};
 ghost use Rattle.front_end.specs.Demands.{Resets};
 ghost use Rattle.front_end.specs.Step.{step};
@@ -16,6 +17,7 @@ ghost use Rattle.playback.specs.Windows.{cut_room, closing_room, closing_text, u
 
 use front_end::{Outcome, REPLY_ROOM};
 use session_file::{KEPT_SIZE, MOST_RECORD, Preamble};
+use text::Page;
 
 // Room for any line: two numbers, 512 bytes in hex, a blank and a newline.
 pub const LINE_ROOM: usize = 1578;
@@ -158,7 +160,7 @@ fn answer(packet: &[u8], q: Progress, device: &mut Device, out: &mut [u8]) -> Pr
 {
     let o = device.handle(packet);
     let number = q.number + 1;
-    let size = put_line(
+    let size = print_line(
         out,
         q.size,
         number,
@@ -168,18 +170,30 @@ fn answer(packet: &[u8], q: Progress, device: &mut Device, out: &mut [u8]) -> Pr
     Progress { size, number, ..q }
 }
 
-// Number, status, and the reply.
-fn put_line(out: &mut [u8], at: usize, number: u64, status: u64, reply: &[u8]) -> usize
+// A line at a place of the output; answers where it ends.
+fn print_line(out: &mut [u8], at: usize, number: u64, status: u64, reply: &[u8]) -> usize
     requires { (at + line_room ≤ length out.old) × (length reply.now ≤ reply_room) }
-    ensures { Puts at (line number status reply.now) out.old out.new result
-        × (result ≤ at + line_room) × Decimal number (decimal number) × Decimal status (decimal status)
-        × Hex reply.now (hex reply.now) }
+    ensures put { Puts at (line number status reply.now) out.old out.new result }
+    ensures most { result ≤ at + line_room }
+    ensures reads { Decimal number (decimal number) × Decimal status (decimal status) × Hex reply.now (hex reply.now) }
 {
-    let behind_number = text::put_number(out, at, number);
-    let behind_blank = text::put_text(out, behind_number, b" ");
-    let behind_status = text::put_number(out, behind_blank, status);
-    let behind_reply = text::put_hex(out, behind_status, reply);
-    text::put_text(out, behind_reply, b"\n")
+    let mut page = Page { out, size: at };
+    put_line(&mut page, number, status, reply);
+    page.size
+}
+
+// Number, status, and the reply.
+fn put_line(page: &mut Page, number: u64, status: u64, reply: &[u8])
+    requires { (page.old.size + line_room ≤ length page.old.out.now) × (length reply.now ≤ reply_room) }
+    ensures put { PutOn (line number status reply.now) page.old page.new }
+    ensures most { page.new.size ≤ page.old.size + line_room }
+    ensures reads { Decimal number (decimal number) × Decimal status (decimal status) × Hex reply.now (hex reply.now) }
+{
+    page.put_number(number);
+    page.put_text(b" ");
+    page.put_number(status);
+    page.put_hex(reply);
+    page.put_text(b"\n");
 }
 
 // The lines behind the last record, over the start of the output: nothing where there is no room,
@@ -187,39 +201,52 @@ fn put_line(out: &mut [u8], at: usize, number: u64, status: u64, reply: &[u8]) -
 pub fn finish(p: Progress, out: &mut [u8]) -> usize
     ensures { Puts 0 (closing_text p out.old) out.old out.new result × (result ≤ length out.new) }
 {
-    if out.len() < CLOSING_ROOM {
-        return 0;
+    let mut page = Page { out, size: 0 };
+    put_closing(&mut page, p);
+    page.size
+}
+
+fn put_closing(page: &mut Page, p: Progress)
+    requires { page.old.size ≡ 0 }
+    ensures put { PutOn (closing_text p page.old.out.now) page.old page.new }
+    ensures inside { page.new.size ≤ length page.new.out.now }
+{
+    if page.out.len() < CLOSING_ROOM {
+        return;
     }
     if MOST_RECORDS <= p.number {
-        return 0;
+        return;
     }
     if !p.matched.is_whole() {
-        return text::put_text(out, 0, b"not a session\n");
+        page.put_text(b"not a session\n");
+        return;
     }
-    let at = put_cut(out, p.number, p.have);
-    put_end(out, at, p.number)
+    put_cut(page, p.number, p.have);
+    put_end(page, p.number);
 }
 
 // The record that is cut, if one is.
-fn put_cut(out: &mut [u8], number: u64, have: usize) -> usize
-    requires { (closing_room ≤ length out.old) × (number < most_records) }
-    ensures { Puts 0 (cut_text number have) out.old out.new result × (result ≤ cut_room) }
+fn put_cut(page: &mut Page, number: u64, have: usize)
+    requires { (page.old.size + cut_room ≤ length page.old.out.now) × (number < most_records) }
+    ensures put { PutOn (cut_text number have) page.old page.new }
+    ensures most { page.new.size ≤ page.old.size + cut_room }
 {
     if have == 0 {
-        return 0;
+        return;
     }
-    let at = text::put_number(out, 0, number + 1);
-    text::put_text(out, at, b" cut\n")
+    page.put_number(number + 1);
+    page.put_text(b" cut\n");
 }
 
 // The count of whole records.
-fn put_end(out: &mut [u8], at: usize, number: u64) -> usize
-    requires { (closing_room ≤ length out.old) × (at ≤ cut_room) }
-    ensures { Puts at (end_line number) out.old out.new result × (result ≤ closing_room) }
+fn put_end(page: &mut Page, number: u64)
+    requires { page.old.size + cut_room ≤ length page.old.out.now }
+    ensures put { PutOn (end_line number) page.old page.new }
+    ensures most { page.new.size ≤ page.old.size + cut_room }
 {
-    let behind_end = text::put_text(out, at, b"end ");
-    let behind_number = text::put_number(out, behind_end, number);
-    text::put_text(out, behind_number, b"\n")
+    page.put_text(b"end ");
+    page.put_number(number);
+    page.put_text(b"\n");
 }
 
 // Rule 9.7: the line for an input that can't be read, over the start of the output: nothing where
@@ -230,7 +257,9 @@ pub fn unreadable(out: &mut [u8]) -> usize
     if out.len() < CLOSING_ROOM {
         return 0;
     }
-    text::put_text(out, 0, b"unreadable\n")
+    let mut page = Page { out, size: 0 };
+    page.put_text(b"unreadable\n");
+    page.size
 }
 
 // Nothing to run: its contract is what holds of whole files.

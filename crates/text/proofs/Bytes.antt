@@ -1,11 +1,13 @@
 -- Rule 9.2: bytes in hex, one more for each turn of a loop.
 use Prim.Native.Nat.{ℕ, ◌+◌, ◌*◌, ◌/◌, ◌%◌, ◌≤◌, ◌<◌}
-use mathlib.Core.Path.{◌≡◌, refl, ap, ◌∙◌}
+use mathlib.Core.Path.{◌≡◌, refl, sym, ap, ◌∙◌}
 use mathlib.Core.List.{List, [], ◌∷◌, ◌++◌}
 use native.Mathlib.Numerals.{add-one}
 use native.Mathlib.Omega.{arith}
 use lib.ListN.{length, take, get_or}
-use lib.Seq.{sets, length-sets, length-take-le, take_all, take-suc}
+use borrow.Rule.Slice.PartMut.{put_mid}
+use Rattle.std.proofs.lemmas.Slice.{put_mid-paste}
+use lib.Seq.{sets, sets-eq, length-take-le, take_all, take-suc}
 use Rattle.wire.proofs.Laws.{sets-append}
 use Rattle.text.specs.Text.{blank, digit, hex}
 
@@ -38,9 +40,6 @@ unfolding hex
 write-start out at bytes = record { within = omega arith; ends = omega arith; written = refl }
 
 module _ {out₀ : List ℕ} {at : ℕ} {bytes : List ℕ} {out : List ℕ} {end i : ℕ} (r : Writing out₀ at bytes out end i) where
-  pub write-long : length out ≡ length out₀
-  write-long = rw r.written (length-sets out₀ at (hex (take i bytes)))
-
   long : length (hex (take i bytes)) ≡ 3 * i
   long = length-hex (take i bytes) ∙ ap (◌*◌ 3) (length-take-le i bytes r.within)
 
@@ -59,3 +58,10 @@ module _ {out₀ : List ℕ} {at : ℕ} {bytes : List ℕ} {out : List ℕ} {end
       let e : take i bytes ≡ bytes = take_all i bytes all in
       let ends : end ≡ at + length (hex (take i bytes)) = omega (arith, long, r.ends) in
       (rw e at ends, rw e at r.written, omega (arith, r.ends, r.within))
+
+-- Words copied over a part of a buffer.
+pub copied : (out words part : List ℕ) (at k : ℕ) → part ≡ words → length words ≡ k → at + length words ≤ length out
+    → put_mid at k out part ≡ sets out at words
+copied out words part at k e same room =
+    put_mid-paste at k out part words (length words) e same refl
+    ∙ rw (take_all (length words) words (omega arith)) (sym (sets-eq words out at room))

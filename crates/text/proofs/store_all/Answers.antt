@@ -1,6 +1,6 @@
 use Rattle.text.proofs.Bytes.{write-start, write-turn, write_done}
 use Rattle.text.proofs.Forms.{hex-right}
-use Rattle.text.proofs.put_hex.Goals as goal
+use Rattle.text.proofs.store_all.Goals as goal
 
 pub loop-b-init : goal.loop-b-init
 loop-b-init c = write-start _ _ _
