@@ -91,7 +91,8 @@ pub fn replay(
     device: &mut Device,
     out: &mut [u8],
 ) -> Progress
-    ensures replayed { WindowReplayed window.now from kept.old (state_of device.old) device.old.reply.now out.old
+    ensures replayed { WindowReplayed window.now from kept.old
+        (state_of device.old) device.old.reply.now out.old
         result kept.new (state_of device.new) device.new.reply.now out.new }
     ensures same { StillLent device.old device.new }
 {
@@ -131,9 +132,10 @@ fn turn(
     device: &mut Device,
     out: &mut [u8],
 ) -> Progress
-    requires { (p.at < length window.now) × (kept_size ≤ length kept.old) × (reply_room ≤ length device.old.reply.now)
-        × (p.have ≤ most_record) × (p.size + line_room ≤ length out.old) × (p.number < most_records) }
-    ensures turned { Turned window.now p kept.old (state_of device.old) device.old.reply.now out.old
+    requires { (p.at < length window.now) × (kept_size ≤ length kept.old)
+        × (reply_room ≤ length device.old.reply.now) × (p.have ≤ most_record) × (p.size + line_room ≤ length out.old) × (p.number < most_records) }
+    ensures turned { Turned window.now p kept.old
+        (state_of device.old) device.old.reply.now out.old
         result kept.new (state_of device.new) device.new.reply.now out.new }
     ensures same { StillLent device.old device.new }
 {
@@ -175,7 +177,8 @@ fn print_line(out: &mut [u8], at: usize, number: u64, status: u64, reply: &[u8])
     requires { (at + line_room ≤ length out.old) × (length reply.now ≤ reply_room) }
     ensures put { Puts at (line number status reply.now) out.old out.new result }
     ensures most { result ≤ at + line_room }
-    ensures reads { Decimal number (decimal number) × Decimal status (decimal status) × Hex reply.now (hex reply.now) }
+    ensures reads { Decimal number (decimal number) × Decimal status (decimal status)
+        × Hex reply.now (hex reply.now) }
 {
     let mut page = Page { out, size: at };
     put_line(&mut page, number, status, reply);
@@ -187,7 +190,8 @@ fn put_line(page: &mut Page, number: u64, status: u64, reply: &[u8])
     requires { (page.old.size + line_room ≤ length page.old.out.now) × (length reply.now ≤ reply_room) }
     ensures put { PutOn (line number status reply.now) page.old page.new }
     ensures most { page.new.size ≤ page.old.size + line_room }
-    ensures reads { Decimal number (decimal number) × Decimal status (decimal status) × Hex reply.now (hex reply.now) }
+    ensures reads { Decimal number (decimal number) × Decimal status (decimal status)
+        × Hex reply.now (hex reply.now) }
 {
     page.put_number(number);
     page.put_text(b" ");

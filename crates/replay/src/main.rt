@@ -6,7 +6,8 @@ ghost use Rattle.std.specs.Prelude.{◌+◌, ◌≤◌, ◌<◌, ◌≡◌, leng
 ghost use Rattle.io.specs.Counts.{IsPrefixLen};
 ghost use Rattle.front_end.specs.State.{reset_state};
 ghost use Rattle.playback.specs.Device.{state_of, StillLent};
-ghost use Rattle.replay.specs.Played.{PlayedSome, Played, way_of, TakenIn, WindowTaken, LastLines, Closed};
+ghost use Rattle.replay.specs.Played.{PlayedSome, Played, way_of, TakenIn, WindowTaken};
+ghost use Rattle.replay.specs.Played.{LastLines, Closed};
 ghost use Rattle.replay.specs.Plain.{count_of, RunPlain};
 
 use front_end::{GAINS_SIZE, MAP_SIZE, REPLY_ROOM};
@@ -102,7 +103,8 @@ fn one_window(
     device: &mut Device,
     out: &mut [u8],
 ) -> BetweenReads
-    ensures taken { WindowTaken from kept.old (state_of device.old) window.new result kept.new (state_of device.new) }
+    ensures taken { WindowTaken from kept.old (state_of device.old)
+        window.new result kept.new (state_of device.new) }
     ensures same { StillLent device.old device.new }
 {
     let got = input.read(window);
@@ -118,7 +120,8 @@ fn take_in(
     device: &mut Device,
     out: &mut [u8],
 ) -> BetweenReads
-    ensures taken { TakenIn from got window.now kept.old (state_of device.old) result kept.new (state_of device.new) }
+    ensures taken { TakenIn from got window.now kept.old (state_of device.old)
+        result kept.new (state_of device.new) }
     ensures same { StillLent device.old device.new }
 {
     let n = count(got, window);
@@ -189,7 +192,8 @@ fn play(
     device: &mut Device,
     out: &mut [u8],
 ) -> Progress
-    ensures played { Played window.now from kept.old (state_of device.old) result kept.new (state_of device.new) }
+    ensures played { Played window.now from kept.old (state_of device.old)
+        result kept.new (state_of device.new) }
     ensures same { StillLent device.old device.new }
 {
     let mut p = from;
@@ -213,7 +217,8 @@ fn play_some(
     device: &mut Device,
     out: &mut [u8],
 ) -> Progress
-    ensures played { PlayedSome window.now from kept.old (state_of device.old) result kept.new (state_of device.new) }
+    ensures played { PlayedSome window.now from kept.old (state_of device.old)
+        result kept.new (state_of device.new) }
     ensures same { StillLent device.old device.new }
 {
     let p = playback::replay(window, from, kept, device, out);
