@@ -5,8 +5,10 @@
 ghost use Rattle.std.specs.Prelude.{◌+◌, ◌-◌, ◌≤◌, ◌<◌, ◌≡◌, true, eqb, length, take, get_or};
 ghost use Rattle.wire.specs.Numbers.{word_at};
 ghost use Rattle.session_file.specs.Session.{preamble, preamble_size, Files};
-ghost use Rattle.session_file.specs.Windows.{kept_size, most_record, ReaderStep, matched_of, found, Lies};
-ghost use Rattle.session_file.specs.Windows.{nothing, preamble_by, whole_record, lacking, taking, kept_after, after_taking};
+ghost use Rattle.session_file.specs.Windows.{kept_size, most_record, ReaderStep, matched_of};
+ghost use Rattle.session_file.specs.Windows.{found, Lies};
+ghost use Rattle.session_file.specs.Windows.{nothing, preamble_by, whole_record, lacking};
+ghost use Rattle.session_file.specs.Windows.{taking, kept_after, after_taking};
 ghost use Rattle.session_file.specs.Windows.{«lies_whole», «is_cut», whole_numbers};
 
 // Bytes of preamble.
@@ -172,7 +174,8 @@ fn whole_in(window: &[u8]) -> Taken
 // Bytes of a record that the window has in part.
 fn more(window: &[u8], have: usize, kept: &mut [u8]) -> Taken
     requires { (0 < length window.now) × (kept_size ≤ length kept.old) × (have ≤ most_record) }
-    ensures { (kept.new ≡ kept_after kept.old have (take (taking window.now have kept.old) window.now))
+    ensures { (kept.new
+        ≡ kept_after kept.old have (take (taking window.now have kept.old) window.now))
         × (result ≡ after_taking (taking window.now have kept.old)
         (have + taking window.now have kept.old) kept.new)
         × (result.have ≤ most_record) × (1 ≤ taking window.now have kept.old) }
