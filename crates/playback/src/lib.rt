@@ -27,8 +27,8 @@ const CLOSING_ROOM: usize = 50;
 
 const MOST_RECORDS: u64 = u64::MAX;
 
-// How far a replay has come: in the window and in the output, in the preamble, in records, and in the
-// bytes of the record under way.
+// How far a replay has come: in the window and in the output, in the preamble, in records, and in
+// the bytes of the record under way.
 #[derive(Clone, Copy)]
 pub struct Progress {
     pub at: usize,
@@ -59,7 +59,8 @@ impl Device<'_> {
 
     // A packet, to the front end.
     fn handle(&mut self, packet: &[u8]) -> Outcome
-        ensures outcome { step_of result self.new ≡ step packet.now (state_of self.old) self.old.reply.now }
+        ensures outcome { step_of result self.new
+            ≡ step packet.now (state_of self.old) self.old.reply.now }
         ensures same { StillLent self.old self.new }
     {
         front_end_numbers::handle(
@@ -133,7 +134,8 @@ fn turn(
     out: &mut [u8],
 ) -> Progress
     requires { (p.at < length window.now) × (kept_size ≤ length kept.old)
-        × (reply_room ≤ length device.old.reply.now) × (p.have ≤ most_record) × (p.size + line_room ≤ length out.old) × (p.number < most_records) }
+        × (reply_room ≤ length device.old.reply.now) × (p.have ≤ most_record)
+        × (p.size + line_room ≤ length out.old) × (p.number < most_records) }
     ensures turned { Turned window.now p kept.old
         (state_of device.old) device.old.reply.now out.old
         result kept.new (state_of device.new) device.new.reply.now out.new }
@@ -187,7 +189,8 @@ fn print_line(out: &mut [u8], at: usize, number: u64, status: u64, reply: &[u8])
 
 // Number, status, and the reply.
 fn put_line(page: &mut Page, number: u64, status: u64, reply: &[u8])
-    requires { (page.old.size + line_room ≤ length page.old.out.now) × (length reply.now ≤ reply_room) }
+    requires { (page.old.size + line_room ≤ length page.old.out.now)
+        × (length reply.now ≤ reply_room) }
     ensures put { PutOn (line number status reply.now) page.old page.new }
     ensures most { page.new.size ≤ page.old.size + line_room }
     ensures reads { Decimal number (decimal number) × Decimal status (decimal status)
