@@ -22,6 +22,8 @@ use Rattle.front_end.specs.Calls.{state_after_all}
 use Rattle.front_end.specs.Plain.{LentRight}
 use Rattle.front_end.proofs.Demands.{runs, right-running, demand1}
 use Rattle.front_end.proofs.InRange.{stays_lent}
+use Rattle.session_file.specs.declared.Preamble.TheVariants.{Matched}
+use Rattle.session_file.specs.Windows.{matched_of}
 use Rattle.session_file.specs.Session.{Run, start, taken, file_run}
 use Rattle.session_file.specs.Plain.{HasPreamble, Splits, ends, next}
 use Rattle.session_file.proofs.Runs.{taken-append}
@@ -43,7 +45,7 @@ text-there text out out' size put fits =
     rw (long, there) (take-append_seam text (drop (0 + length text) out))
 
 -- Before the first byte.
-begins : (kept : List ℕ) (s : State) → ReplayStands s start (progress 0 0 0 0 0) kept s
+begins : (kept : List ℕ) (s : State) → ReplayStands s start (progress 0 0 (Matched 0) 0 0) kept s
 unfolding state_after_all
 begins kept s =
     record {
@@ -57,7 +59,7 @@ record So (first : State) (bytes text : List ℕ) (p : Progress) (kept : List �
   printed : lines 0 (file_run bytes).whole first ≡ text
   formed : Formed 0 text p.number
 
-so_far : {kept : List ℕ} {first : State} {bytes text : List ℕ} {p : Progress} {kept' : List ℕ} {s : State} → Called (progress 0 0 0 0 0) kept first bytes text p kept' s
+so_far : {kept : List ℕ} {first : State} {bytes text : List ℕ} {p : Progress} {kept' : List ℕ} {s : State} → Called (progress 0 0 (Matched 0) 0 0) kept first bytes text p kept' s
     → So first bytes text p kept' s
 unfolding file_run lines taken
 so_far {kept} {first = first} Called.none = record { stands = begins kept first; printed = refl; formed = Formed.none }
@@ -78,7 +80,7 @@ so_far {first = first} (Called.next {bytes} {text} {window} {reply} {reply'} {ou
     }
 
 closing-there : (p : Progress) (out : List ℕ) → 50 ≤ length out → p.number < 18446744073709551615
-    → closing_text p out ≡ closing p.matched p.number p.have
+    → closing_text p out ≡ closing (matched_of p.matched) p.number p.have
 closing-there p out room few = rw (le-leb 50 (length out) room, lt-ltb p.number 18446744073709551615 few)
 
 none-taken : (r : Run) (window : List ℕ) (n : ℕ) → n ≡ 0 → taken r (take (n - 0) (drop 0 window)) ≡ r
@@ -113,7 +115,7 @@ moved {first} {bytes} {text} {kept} {p} {s} x {window} {reply} {out} {kept'} {re
 
 -- Rule 9.6.
 pub any-split : {kept bytes text : List ℕ} {p : Progress} {kept' : List ℕ} {s : State}
-    → Called (progress 0 0 0 0 0) kept reset_state bytes text p kept' s → WholeText bytes text p kept' s
+    → Called (progress 0 0 (Matched 0) 0 0) kept reset_state bytes text p kept' s → WholeText bytes text p kept' s
 unfolding replay_text text_of end_state
 any-split {bytes = bytes} {text = text} {p = p} c =
     let so = so_far c in
@@ -122,7 +124,7 @@ any-split {bytes = bytes} {text = text} {p = p} c =
       printed =
           λ out room few.
           ap (λ (l : List ℕ). text ++ l) (closing-there p out room few)
-          ∙ ap (λ (l : List ℕ). l ++ closing p.matched p.number p.have) (sym so.printed)
+          ∙ ap (λ (l : List ℕ). l ++ closing (matched_of p.matched) p.number p.have) (sym so.printed)
           ∙ ap (λ (m : ℕ). lines 0 (file_run bytes).whole reset_state ++ closing m p.number p.have) st.reader.preamble-bytes
           ∙ ap (λ (n : ℕ). lines 0 (file_run bytes).whole reset_state ++ closing (file_run bytes).matched n p.have) st.number
           ∙ ap (λ (h : ℕ). lines 0 (file_run bytes).whole reset_state ++ closing (file_run bytes).matched (length (file_run bytes).whole) h) st.reader.record-bytes;

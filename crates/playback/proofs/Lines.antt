@@ -13,6 +13,8 @@ use Rattle.wire.proofs.Laws.{take-over, sets-append}
 use Rattle.opcode.specs.Judgement.{judgement}
 use Rattle.packet.specs.Frame.{header_of}
 use Rattle.packet.specs.Reading.{too_short}
+use Rattle.text.specs.declared.Page.{Page}
+use Rattle.text.specs.Page.{PutOn}
 use Rattle.text.specs.Text.{decimal, hex, Puts}
 use Rattle.text.specs.Plain.{Decimal, Hex}
 use Rattle.front_end.specs.State.{State, stopped}
@@ -142,3 +144,7 @@ puts-behind {at} {mid} {end} {a} {b} {out} x y =
       ends = omega (arith, x.ends, y.ends, length-append a b);
       exits = y.exits ∙ rw (x.exits, x.ends) (sets-append out at a b);
     }
+
+-- The same on a page.
+pub put-behind : {p q r : Page} {a b : List ℕ} → PutOn a p q → PutOn b q r → PutOn (a ++ b) p r
+put-behind x y = record { puts = puts-behind x.puts y.puts; same = y.same ∙ x.same; long = y.long ∙ x.long }

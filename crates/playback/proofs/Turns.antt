@@ -5,9 +5,10 @@ use mathlib.Core.Bool.{Bool, true, false, cond, ◌&&◌, true≢false}
 use mathlib.Core.Logic.{inl, inr}
 use mathlib.Core.List.{List, [], ◌∷◌, ◌++◌, append_assoc, append-nil}
 use native.Mathlib.Omega.{arith}
-use borrow.Author.Tests.{eq-eqb, ne_eqb, leb-true, leb-false, le-leb, ltb-true, ltb-false}
-use lib.ListN.{length, take, drop, length-append}
-use lib.Seq.{take-add, drop-drop}
+use borrow.Author.Tests.{leb-true, leb-false, le-leb, ltb-true, ltb-false}
+use lib.ListN.{length, take, drop, length-append, length-drop}
+use lib.Seq.{take-add, take_all, drop-drop}
+use Rattle.std.proofs.Common.{Some, None}
 use lib.Dec.{leb, ltb}
 use Rattle.wire.proofs.Tests.{and_left, and_right}
 use Rattle.wire.specs.First.{first}
@@ -18,14 +19,16 @@ use Rattle.front_end.specs.State.{State, stopped}
 use Rattle.front_end.specs.Step.{Out, out, read_and_placed, number_of, reply_to, step}
 use Rattle.front_end.proofs.Bounds.{placed-number}
 use Rattle.front_end.proofs.ReadBack.{size_small}
+use Rattle.session_file.specs.declared.Preamble.{Preamble}
+use Rattle.session_file.specs.declared.Found.{Found}
 use Rattle.session_file.specs.declared.Taken.{Taken}
 use Rattle.session_file.specs.Session.{Run, taken}
-use Rattle.session_file.specs.Windows.{most_record, part, found, next_taken, Follows, ReaderStep, ReaderStands}
+use Rattle.session_file.specs.Windows.{most_record, found, next_taken, Follows, ReaderStep, ReaderStands}
 use Rattle.session_file.proofs.Runs.{taken-append}
 use Rattle.playback.specs.declared.Progress.{Progress}
 use Rattle.playback.specs.Replay.{reply_buffer, line, line_of, lines, state_after_records, Formed}
-use Rattle.playback.specs.Windows.{line_room, most_records, progress, begun, ReplayStands, Replayed, Full, has_room, RoomsEnough, rooms_right}
-use Rattle.playback.specs.Windows.{WindowReplayed, Carries, Answered, Turned, Going, going, read_on, answer_of, turn_by, turn_of, WindowTurns, stops, goes}
+use Rattle.playback.specs.Windows.{part, line_room, most_records, progress, begun, ReplayStands, Replayed, Full, has_room, RoomsEnough, rooms_right}
+use Rattle.playback.specs.Windows.{WindowReplayed, Carries, Answered, Turned, Going, going, read_on, answer_of, answer_found, turn_by, turn_of, WindowTurns, stops, goes}
 use Rattle.playback.proofs.Lines.{state-snoc, lines_snoc, front-line, front-state, line-formed, formed-append, puts-behind}
 
 -- ---- Parts of a window.
@@ -116,12 +119,16 @@ answer-done {packet} {q} {p} {s} {s'} {reply} {reply'} {buffer} {buffer'} {statu
 
 -- What the reader leaves, with the output as it was.
 abbrev pub read_to : Progress → Taken → Progress
-read_to p t = progress t.at p.size t.matched p.number t.have
+read_to p t = progress (p.at + t.size) p.size t.matched p.number t.have
+
+-- The bytes that it took.
+part-next : (window : List ℕ) (at n : ℕ) → part window at (at + n) ≡ take n (drop at window)
+part-next window at n = let e : at + n - at ≡ n = omega arith in rw e
 
 module _ (window : List ℕ) (p : Progress) (kept : List ℕ) (s : State) (out : List ℕ) (t : Taken) (kept' : List ℕ)
-    (follows : Follows window p.at p.matched p.have kept t kept') where
+    (follows : Follows (drop p.at window) p.matched p.have kept t kept') where
   -- No record became whole.
-  pub turn-none : t.place ≡ 0 → Replayed window p kept s out (read_to p t) kept' s out
+  turn-none : t.found ≡ None → Replayed window p kept s out (read_to p t) kept' s out
   turn-none none =
       record {
         text = [];
@@ -130,26 +137,32 @@ module _ (window : List ℕ) (p : Progress) (kept : List ℕ) (s : State) (out :
         follows =
             λ first r st.
             let w = follows r st.reader in
+            let run : taken r (part window p.at (p.at + t.size)) ≡ taken r (take t.size (drop p.at window)) =
+            ap (taken r) (part-next window p.at t.size) in
+            let same : (taken r (part window p.at (p.at + t.size))).whole ≡ r.whole = ap (λ (x : Run). x.whole) run ∙ w.none none in
             record {
               stands =
                   record {
-                    reader = w.stands;
-                    number = st.number ∙ ap (λ (l : List (List ℕ)). length l) (sym (w.none none));
-                    state = st.state ∙ ap (λ (l : List (List ℕ)). state_after_records l first) (sym (w.none none));
+                    reader = subst (λ (x : Run). ReaderStands x t.matched t.have kept') (sym run) w.stands;
+                    number = st.number ∙ ap (λ (l : List (List ℕ)). length l) (sym same);
+                    state = st.state ∙ ap (λ (l : List (List ℕ)). state_after_records l first) (sym same);
                   };
-              printed = ap (λ (l : List (List ℕ)). lines 0 l first) (w.none none) ∙ sym (append-nil (lines 0 r.whole first));
+              printed = ap (λ (l : List (List ℕ)). lines 0 l first) same ∙ sym (append-nil (lines 0 r.whole first));
             };
       }
 
   -- One did.
-  module _ (reply : List ℕ) (room : 512 ≤ length reply) (some : t.place ≡ 0 → ⊥) (q : Progress) (s' : State) (reply' out' : List ℕ)
-      (a : Answered (found t window kept') (read_to p t) s reply out q s' reply' out') where
-    pub turn_one : Replayed window p kept s out q kept' s' out'
+  module _ (reply : List ℕ) (room : 512 ≤ length reply) (f : Found) (some : t.found ≡ Some f) (q : Progress) (s' : State) (reply' out' : List ℕ)
+      (a : Answered (found f (drop p.at window) kept') (read_to p t) s reply out q s' reply' out') where
+    abbrev answered : List ℕ
+    answered = found f (drop p.at window) kept'
+
+    turn_one : Replayed window p kept s out q kept' s' out'
     turn_one =
         record {
-          text = line_of (p.number + 1) (step (found t window kept') s reply);
+          text = line_of (p.number + 1) (step answered s reply);
           put = a.put;
-          formed = subst (λ (n : ℕ). Formed p.number (line_of (p.number + 1) (step (found t window kept') s reply)) n) (sym a.number) a.formed;
+          formed = subst (λ (n : ℕ). Formed p.number (line_of (p.number + 1) (step answered s reply)) n) (sym a.number) a.formed;
           follows =
               λ first r st.
               let w = follows r st.reader in
@@ -157,13 +170,13 @@ module _ (window : List ℕ) (p : Progress) (kept : List ℕ) (s : State) (out :
               let before : State = state_after_records r.whole first in
               let one = w.one some in
               let there = w.there some in
-              let bytes : List ℕ = part window p.at t.at in
-              let place : part window p.at q.at ≡ bytes = ap (part window p.at) a.at in
-              let run : taken r (part window p.at q.at) ≡ taken r bytes = ap (taken r) place in
+              let bytes : List ℕ = take t.size (drop p.at window) in
+              let run : taken r (part window p.at q.at) ≡ taken r bytes =
+              ap (taken r) (ap (part window p.at) a.at ∙ part-next window p.at t.size) in
               let state-now : s' ≡ (step packet before reply_buffer).state =
               a.state ∙ ap (λ (x : List ℕ). (step x s reply).state) there ∙ front-state packet s reply room
               ∙ ap (λ (x : State). (step packet x reply_buffer).state) st.state in
-              let text-now : line_of (p.number + 1) (step (found t window kept') s reply) ≡ line_of (0 + length r.whole + 1) (step packet before reply_buffer) =
+              let text-now : line_of (p.number + 1) (step answered s reply) ≡ line_of (0 + length r.whole + 1) (step packet before reply_buffer) =
               ap (λ (x : List ℕ). line_of (p.number + 1) (step x s reply)) there ∙ front-line (p.number + 1) packet s reply room
               ∙ ap (λ (x : State). line_of (p.number + 1) (step packet x reply_buffer)) st.state
               ∙ ap (λ (n : ℕ). line_of n (step packet before reply_buffer)) (omega (arith, st.number)) in
@@ -172,7 +185,7 @@ module _ (window : List ℕ) (p : Progress) (kept : List ℕ) (s : State) (out :
                     subst (λ (x : Run). ReplayStands first x q kept' s') (sym run)
                     (record {
                       reader =
-                          subst (λ (m : ℕ). ReaderStands (taken r bytes) m q.have kept') (sym a.matched)
+                          subst (λ (m : Preamble). ReaderStands (taken r bytes) m q.have kept') (sym a.matched)
                           (subst (λ (h : ℕ). ReaderStands (taken r bytes) t.matched h kept') (sym a.have) w.stands);
                       number =
                           a.number ∙ ap (λ (n : ℕ). n + 1) st.number
@@ -213,24 +226,20 @@ reply-fits packet s reply {s'} {reply'} {status} {fault} {size} e =
 -- ---- The promise of a turn.
 
 -- A step of the reader is that of the definition.
-by-step : (window : List ℕ) (g : Going) (t : Taken) (kept' : List ℕ) → ReaderStep window g.now.at g.now.matched g.now.have g.kept t kept'
-    → turn_by window g t kept' ≡ turn_of window g
+by-step : (window : List ℕ) (g : Going) (t : Taken) (kept' : List ℕ)
+    → ReaderStep (drop g.now.at window) g.now.matched g.now.have g.kept t kept' → turn_by (drop g.now.at window) g t kept' ≡ turn_of window g
 unfolding turn_of
 by-step window g t kept' step =
-    ap (λ (x : Taken). turn_by window g x kept') step.answer
-    ∙ ap (λ (k : List ℕ). turn_by window g (next_taken window g.now.at g.now.matched g.now.have g.kept) k) step.room
+    let rest : List ℕ = drop g.now.at window in
+    ap (λ (x : Taken). turn_by rest g x kept') step.answer
+    ∙ ap (λ (k : List ℕ). turn_by rest g (next_taken rest g.now.matched g.now.have g.kept) k) step.room
 
-outcome-none : (window : List ℕ) (g : Going) (t : Taken) (kept' : List ℕ) → ReaderStep window g.now.at g.now.matched g.now.have g.kept t kept'
-    → t.place ≡ 0 → read_on g t kept' ≡ turn_of window g
-unfolding turn_by
-outcome-none window g t kept' step none = rw (eq-eqb t.place 0 none) at (by-step window g t kept' step)
-
-progress-is : (q : Progress) {at size matched number have : ℕ} → q.at ≡ at → q.size ≡ size → q.matched ≡ matched → q.number ≡ number → q.have ≡ have
-    → q ≡ progress at size matched number have
-progress-is q {at} {size} {matched} {number} {have} a z m n h =
+progress-is : (q : Progress) {at size number have : ℕ} {matched : Preamble} → q.at ≡ at → q.size ≡ size → q.matched ≡ matched → q.number ≡ number
+    → q.have ≡ have → q ≡ progress at size matched number have
+progress-is q {at} {size} {number} {have} {matched} a z m n h =
     ap (λ (x : ℕ). progress x q.size q.matched q.number q.have) a
     ∙ ap (λ (x : ℕ). progress at x q.matched q.number q.have) z
-    ∙ ap (λ (x : ℕ). progress at size x q.number q.have) m
+    ∙ ap (λ (x : Preamble). progress at size x q.number q.have) m
     ∙ ap (λ (x : ℕ). progress at size matched x q.have) n
     ∙ ap (λ (x : ℕ). progress at size matched number x) h
 
@@ -242,58 +251,49 @@ answer-is packet g q s' reply' out' a =
     ∙ ap (λ (x : List ℕ). going (answer_of packet g).now g.kept (answer_of packet g).state x out') a.buffer
     ∙ ap (λ (x : List ℕ). going (answer_of packet g).now g.kept (answer_of packet g).state (answer_of packet g).reply x) a.put.exits
 
-outcome-one : (window : List ℕ) (g : Going) (t : Taken) (kept' : List ℕ) → ReaderStep window g.now.at g.now.matched g.now.have g.kept t kept'
-    → (t.place ≡ 0 → ⊥) → answer_of (found t window kept') (read_on g t kept') ≡ turn_of window g
-unfolding turn_by
-outcome-one window g t kept' step some = rw (ne_eqb t.place 0 some) at (by-step window g t kept' step)
+outcome-none : (rest : List ℕ) (g : Going) (t : Taken) (kept' : List ℕ) → t.found ≡ None → read_on g t kept' ≡ turn_by rest g t kept'
+unfolding answer_found
+outcome-none rest g t kept' none = rw none
 
-pub turned_none : (window : List ℕ) (p : Progress) (kept : List ℕ) (s : State) (reply out : List ℕ) (t : Taken) (kept' : List ℕ)
-    → ReaderStep window p.at p.matched p.have kept t kept' → t.place ≡ 0 → p.size + line_room ≤ length out
+outcome-one : (rest : List ℕ) (g : Going) (t : Taken) (kept' : List ℕ) (f : Found) → t.found ≡ Some f
+    → answer_of (found f rest kept') (read_on g t kept') ≡ turn_by rest g t kept'
+unfolding answer_found
+outcome-one rest g t kept' f some = rw some
+
+pub turned_none : {window kept kept' reply out : List ℕ} {p : Progress} {s : State} {t : Taken}
+    → ReaderStep (drop p.at window) p.matched p.have kept t kept' → t.found ≡ None → p.at < length window → p.size + line_room ≤ length out
     → Turned window p kept s reply out (read_to p t) kept' s reply out
-turned_none window p kept s reply out t kept' step none room =
+turned_none {window} {kept} {kept'} {reply} {out} {p} {s} {t} step none inside room =
+    let g : Going = going p kept s reply out in
     record {
-      outcome = outcome-none window (going p kept s reply out) t kept' step none;
+      outcome = outcome-none (drop p.at window) g t kept' none ∙ by-step window g t kept' step;
       replayed = turn-none window p kept s out t kept' step.follows none;
-      some = step.within.some;
-      inside = step.within.inside;
+      some = omega (arith, step.within.some);
+      inside = omega (arith, step.within.inside, length-drop p.at window);
       filled = omega arith;
       have-most = step.within.have-most;
     }
 
-turned-one : (window : List ℕ) (p : Progress) (kept : List ℕ) (s : State) (out : List ℕ) (t : Taken) (kept' : List ℕ)
-    → ReaderStep window p.at p.matched p.have kept t kept' → (t.place ≡ 0 → ⊥) → p.size + line_room ≤ length out
-    → (packet reply : List ℕ) → 512 ≤ length reply → packet ≡ found t window kept'
-    → (q : Progress) (s' : State) (reply' out' : List ℕ) → Answered packet (read_to p t) s reply out q s' reply' out'
-    → Turned window p kept s reply out q kept' s' reply' out'
-turned-one window p kept s out t kept' step some room packet reply long e q s' reply' out' a =
-    let b = subst (λ (x : List ℕ). Answered x (read_to p t) s reply out q s' reply' out') e a in
+pub turned-one : {window kept kept' reply out : List ℕ} {p : Progress} {s : State} {t : Taken} (f : Found)
+    → ReaderStep (drop p.at window) p.matched p.have kept t kept' → t.found ≡ Some f → p.at < length window → p.size + line_room ≤ length out
+    → 512 ≤ length reply → {q : Progress} {s' : State} {reply' out' : List ℕ}
+    → Answered (found f (drop p.at window) kept') (read_to p t) s reply out q s' reply' out' → Turned window p kept s reply out q kept' s' reply' out'
+turned-one {window} {kept} {kept'} {reply} {out} {p} {s} {t} f step some inside room long {q} {s'} {reply'} {out'} a =
     let g : Going = going p kept s reply out in
     record {
-      outcome = answer-is (found t window kept') (read_on g t kept') q s' reply' out' b ∙ outcome-one window g t kept' step some;
-      replayed = turn_one window p kept s out t kept' step.follows reply long some q s' reply' out' b;
+      outcome =
+          answer-is (found f (drop p.at window) kept') (read_on g t kept') q s' reply' out' a
+          ∙ outcome-one (drop p.at window) g t kept' f some ∙ by-step window g t kept' step;
+      replayed = turn_one window p kept s out t kept' step.follows reply long f some q s' reply' out' a;
       some = omega (arith, step.within.some, a.at);
-      inside = omega (arith, step.within.inside, a.at);
+      inside = omega (arith, step.within.inside, a.at, length-drop p.at window);
       filled = omega (arith, a.fits);
       have-most = omega (arith, step.within.have-most, a.have);
     }
 
-pub turned-window : (window : List ℕ) (p : Progress) (kept : List ℕ) (s : State) (out : List ℕ) (t : Taken) (kept' : List ℕ)
-    → ReaderStep window p.at p.matched p.have kept t kept' → (t.place ≡ 0 → ⊥) → t.place ≡ 1 → p.size + line_room ≤ length out
-    → (reply : List ℕ) → 512 ≤ length reply → (q : Progress) (s' : State) (reply' out' : List ℕ)
-    → Answered (take (t.end - t.start) (drop t.start window)) (read_to p t) s reply out q s' reply' out'
-    → Turned window p kept s reply out q kept' s' reply' out'
-turned-window window p kept s out t kept' step some e room reply long q s' reply' out' a =
-    let there : take (t.end - t.start) (drop t.start window) ≡ found t window kept' = rw (eq-eqb t.place 1 e) in
-    turned-one window p kept s out t kept' step some room (take (t.end - t.start) (drop t.start window)) reply long there q s' reply' out' a
-
-pub turned-kept : (window : List ℕ) (p : Progress) (kept : List ℕ) (s : State) (out : List ℕ) (t : Taken) (kept' : List ℕ)
-    → ReaderStep window p.at p.matched p.have kept t kept' → (t.place ≡ 0 → ⊥) → (t.place ≡ 1 → ⊥) → p.size + line_room ≤ length out
-    → (reply : List ℕ) → 512 ≤ length reply → (q : Progress) (s' : State) (reply' out' : List ℕ)
-    → Answered (take (t.end - t.start) (drop t.start kept')) (read_to p t) s reply out q s' reply' out'
-    → Turned window p kept s reply out q kept' s' reply' out'
-turned-kept window p kept s out t kept' step some e room reply long q s' reply' out' a =
-    let there : take (t.end - t.start) (drop t.start kept') ≡ found t window kept' = rw (ne_eqb t.place 1 e) in
-    turned-one window p kept s out t kept' step some room (take (t.end - t.start) (drop t.start kept')) reply long there q s' reply' out' a
+-- What is left of a window.
+pub rest-is : (window : List ℕ) (at : ℕ) → take (length window - at) (drop at window) ≡ drop at window
+rest-is window at = take_all (length window - at) (drop at window) (omega (arith, length-drop at window))
 
 -- ---- The loop over a window.
 
@@ -435,7 +435,7 @@ carry-as {bytes} {from} {p} {q} {kept} {kept'} {s} {s'} m n h x =
           let y = x.stands first r st in
           record {
             reader =
-                subst (λ (m : ℕ). ReaderStands (taken r bytes) m q.have kept') (sym m)
+                subst (λ (m : Preamble). ReaderStands (taken r bytes) m q.have kept') (sym m)
                 (subst (λ (h : ℕ). ReaderStands (taken r bytes) p.matched h kept') (sym h) y.reader);
             number = n ∙ y.number;
             state = y.state;

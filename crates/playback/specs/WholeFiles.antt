@@ -6,6 +6,7 @@ use Rattle.front_end.specs.State.{State, reset_state}
 use Rattle.front_end.specs.Step.{status_reply, step}
 use Rattle.front_end.specs.Plain.{LentRight}
 use Rattle.wire.specs.Plain.{Bytes}
+use Rattle.session_file.specs.declared.Preamble.TheVariants.{Matched}
 use Rattle.session_file.specs.Session.{file_run}
 use Rattle.session_file.specs.Plain.{HasPreamble}
 use Rattle.playback.specs.declared.Progress.{Progress}
@@ -82,7 +83,7 @@ pub record WholeFiles : Type 0 where
   pub put : {at end : ℕ} {text out out' : List ℕ} → Puts at text out out' end → (end ≡ at + length text) × (out' ≡ sets out at text)
   -- Rule 9.6: windows of any split, from the start of a file and from reset.
   pub any-split : {kept bytes text : List ℕ} {p : Progress} {kept' : List ℕ} {s : State}
-      → Called (progress 0 0 0 0 0) kept reset_state bytes text p kept' s → WholeText bytes text p kept' s
+      → Called (progress 0 0 (Matched 0) 0 0) kept reset_state bytes text p kept' s → WholeText bytes text p kept' s
   -- Rules 9.2 to 9.4: the text and the end state of a file are what the plain promise says, and
   -- nothing else is.
   pub printed : (file : List ℕ) → Countable file → Printed file (replay_text file) (end_state file)

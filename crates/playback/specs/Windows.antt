@@ -1,12 +1,14 @@
 -- Rule 9.6: a file replayed in windows: what is carried from one to the next, and what each prints.
-use Rattle.std.specs.Prelude.{ℕ, ◌+◌, ◌≤◌, ◌<◌, ◌≡◌, ◌⊎◌, Bool, cond, ◌&&◌, List, [], ◌++◌, length, eqb, leb, ltb}
+use Rattle.std.specs.Prelude.{ℕ, ◌+◌, ◌-◌, ◌≤◌, ◌<◌, ◌≡◌, ◌⊎◌, Option, Some, None, Bool, cond, ◌&&◌, List, [], ◌++◌, length, take, drop, leb, ltb}
 use Rattle.std.proofs.lemmas.List.Edits.{sets}
 use Rattle.text.specs.Text.{Puts}
 use Rattle.front_end.specs.State.{State, reply_room}
 use Rattle.front_end.specs.Step.{step}
 use Rattle.session_file.specs.Session.{Run, taken}
+use Rattle.session_file.specs.declared.Preamble.{Preamble}
+use Rattle.session_file.specs.declared.Found.{Found}
 use Rattle.session_file.specs.declared.Taken.{Taken}
-use Rattle.session_file.specs.Windows.{kept_size, most_record, part, nowhere, found, next_taken, next_kept, ReaderStands}
+use Rattle.session_file.specs.Windows.{kept_size, most_record, matched_of, found, next_taken, next_kept, ReaderStands}
 use Rattle.playback.specs.declared.Progress.{Progress}
 use Rattle.playback.specs.Replay.{line_of, lines, state_after_records, unreadable_line, closing, Formed}
 
@@ -18,7 +20,7 @@ line_room = 1578
 abbrev pub most_records : ℕ
 most_records = 18446744073709551615
 
-abbrev pub progress : ℕ → ℕ → ℕ → ℕ → ℕ → Progress
+abbrev pub progress : ℕ → ℕ → Preamble → ℕ → ℕ → Progress
 progress at size matched number have =
     record { at = at; size = size; matched = matched; number = number; have = have }
 
@@ -38,6 +40,10 @@ pub record ReplayStands (first : State) (r : Run) (p : Progress) (kept : List �
 pub record Followed (first : State) (r : Run) (bytes : List ℕ) (p : Progress) (kept : List ℕ) (s : State) (text : List ℕ) : Type 0 where
   pub stands : ReplayStands first (taken r bytes) p kept s
   pub printed : lines 0 (taken r bytes).whole first ≡ lines 0 r.whole first ++ text
+
+-- The part of a window between two places.
+abbrev pub part : List ℕ → ℕ → ℕ → List ℕ
+part window at end = take (end - at) (drop at window)
 
 -- From one place in the window to another: some text was put behind what the output had. Whatever
 -- run, and from whatever state, the arguments stood for, what is left stands for that run with the
@@ -91,7 +97,7 @@ going now kept s reply out = record { now = now; kept = kept; state = s; reply =
 -- The reader took some bytes.
 abbrev pub read_on : Going → Taken → List ℕ → Going
 read_on g t kept =
-    going (progress t.at g.now.size t.matched g.now.number t.have) kept g.state g.reply g.out
+    going (progress (g.now.at + t.size) g.now.size t.matched g.now.number t.have) kept g.state g.reply g.out
 
 -- Rule 9.2: a record's packet goes to the front end, which writes over the reply buffer, and its
 -- line stands behind what the output had.
@@ -105,15 +111,18 @@ answer_of packet g =
     g.kept (step packet g.state g.reply).state (step packet g.state g.reply).reply
     (sets g.out g.now.size (line_now packet g))
 
--- One turn: a step of the reader, and the answer to a record that became whole by it.
-unfoldable pub turn_by : List ℕ → Going → Taken → List ℕ → Going
-turn_by window g t kept =
-    cond (eqb t.place nowhere) (read_on g t kept) (answer_of (found t window kept) (read_on g t kept))
+-- One turn: a step of the reader on what is left of the window, and the answer to a record that became whole by it.
+unfoldable pub answer_found : List ℕ → Option Found → Going → Going
+answer_found rest None g = g
+answer_found rest (Some f) g = answer_of (found f rest g.kept) g
+
+abbrev pub turn_by : List ℕ → Going → Taken → List ℕ → Going
+turn_by rest g t kept = answer_found rest t.found (read_on g t kept)
 
 unfoldable pub turn_of : List ℕ → Going → Going
 turn_of window g =
-    turn_by window g (next_taken window g.now.at g.now.matched g.now.have g.kept)
-    (next_kept window g.now.at g.now.matched g.now.have g.kept)
+    let rest = drop g.now.at window in
+    turn_by rest g (next_taken rest g.now.matched g.now.have g.kept) (next_kept rest g.now.matched g.now.have g.kept)
 
 -- Turn after turn, and it stops at the first place where the window is used up, the output has no
 -- room for another line, or the count of records is at its end.
@@ -150,7 +159,7 @@ cut_room = 25
 -- end.
 abbrev pub closing_text : Progress → List ℕ → List ℕ
 closing_text p out =
-    cond (leb closing_room (length out) && ltb p.number most_records) (closing p.matched p.number p.have) []
+    cond (leb closing_room (length out) && ltb p.number most_records) (closing (matched_of p.matched) p.number p.have) []
 
 -- Rule 9.7: what is printed where no more can be read: nothing without room.
 abbrev pub unreadable_text : List ℕ → List ℕ

@@ -1,11 +1,13 @@
 -- Rules 9.2 to 9.7: what the program does, with the numbers themselves. What a read answers and
--- puts into a window is free, and so is whether a write succeeds. It goes on with another read (0),
--- is at the file's end (1), can't read (2) or can't write (3), which also stands for an output
--- without room for a line, or a record too many to be counted.
+-- puts into a window is free, and so is whether a write succeeds. It goes on with another read, is
+-- at the file's end, can't read or can't write, which also stands for an output without room for a
+-- line, or a record too many to be counted.
 use Rattle.std.specs.Prelude.{ℕ, suc, ◌≤◌, ◌<◌, ◌≡◌, ◌⊎◌, min, List, [], ◌∷◌, ◌++◌, length, take, drop, Result, Ok, Err}
 use Rattle.std.proofs.lemmas.List.Edits.{sets}
 use Rattle.std_io.specs.declared.io.error.Error.{Error}
 use Rattle.front_end.specs.State.{State}
+use Rattle.replay.specs.declared.Way.{Way}
+use Rattle.replay.specs.declared.Way.TheVariants.{More, Ended, Unreadable, Unwritable}
 use Rattle.session_file.specs.Plain.{HasPreamble, Splits}
 use Rattle.playback.specs.Plain.{Countable, Closes, Printed}
 
@@ -22,24 +24,24 @@ given got window = take (count_of got (length window)) window
 -- Rules 9.4 and 9.7: how it goes on behind a read, with these bytes read. A read that fails; one
 -- that gives nothing, which is the file's end; and one that gives some: a file that is no session
 -- need not be read to its end.
-pub record GoesOn (got : Result ℕ Error) (bytes : List ℕ) (how : ℕ) : Type 0 where
-  pub failed : {e : Error} → got ≡ Err e → how ≡ 2
-  pub ended : got ≡ Ok 0 → how ≡ 1
-  pub some : {k : ℕ} → got ≡ Ok (suc k) → (how ≡ 0) ⊎ ((how ≡ 1) × (HasPreamble bytes → ⊥))
+pub record GoesOn (got : Result ℕ Error) (bytes : List ℕ) (how : Way) : Type 0 where
+  pub failed : {e : Error} → got ≡ Err e → how ≡ Unreadable
+  pub ended : got ≡ Ok 0 → how ≡ Ended
+  pub some : {k : ℕ} → got ≡ Ok (suc k) → (how ≡ More) ⊎ ((how ≡ Ended) × (HasPreamble bytes → ⊥))
 
 -- So many reads, one after another while it goes on, each into a window with room, how it goes on
 -- behind the last of them, and the bytes that they gave. Where a write failed it does not go on.
-pub data Reads : ℕ → ℕ → List ℕ → Type 0 where
-  none : Reads 0 0 []
-  next : {n how : ℕ} {bytes : List ℕ} (got : Result ℕ Error) (window : List ℕ) → Reads n 0 bytes → 0 < length window
-      → ((how ≡ 3 → ⊥) → GoesOn got (bytes ++ given got window) how) → Reads (suc n) how (bytes ++ given got window)
+pub data Reads : ℕ → Way → List ℕ → Type 0 where
+  none : Reads 0 More []
+  next : {n : ℕ} {how : Way} {bytes : List ℕ} (got : Result ℕ Error) (window : List ℕ) → Reads n More bytes → 0 < length window
+      → ((how ≡ Unwritable → ⊥) → GoesOn got (bytes ++ given got window) how) → Reads (suc n) how (bytes ++ given got window)
 
 -- The last lines, with room for so many bytes: at the end of a file what is printed behind the last
 -- record; nothing behind a write that failed; else `unreadable`. Fewer than 50 bytes are no room.
-pub record LastText (how room : ℕ) (closing text : List ℕ) : Type 0 where
-  pub at-end : how ≡ 1 → 50 ≤ room → text ≡ closing
-  pub unread : (how ≡ 1 → ⊥) → (how ≡ 3 → ⊥) → 50 ≤ room → text ≡ 117 ∷ 110 ∷ 114 ∷ 101 ∷ 97 ∷ 100 ∷ 97 ∷ 98 ∷ 108 ∷ 101 ∷ 10 ∷ []
-  pub unwritten : (how ≡ 3) ⊎ (room < 50) → text ≡ []
+pub record LastText (how : Way) (room : ℕ) (closing text : List ℕ) : Type 0 where
+  pub at-end : how ≡ Ended → 50 ≤ room → text ≡ closing
+  pub unread : (how ≡ Ended → ⊥) → (how ≡ Unwritable → ⊥) → 50 ≤ room → text ≡ 117 ∷ 110 ∷ 114 ∷ 101 ∷ 97 ∷ 100 ∷ 97 ∷ 98 ∷ 108 ∷ 101 ∷ 10 ∷ []
+  pub unwritten : (how ≡ Unwritable) ⊎ (room < 50) → text ≡ []
 
 -- Rules 9.3 and 9.4: what closes the text of a file: `not a session`, or of its records the lines
 -- behind the last.
@@ -49,17 +51,17 @@ pub data Closing (file : List ℕ) : List ℕ → Type 0 where
       → Closes (length packets) (length rest) text → Closing file text
 
 -- A run, from reset: how it stands, the state, and the output at its end.
-pub record RunPlain (how : ℕ) (t : State) (out' : List ℕ) : Type 0 where
+pub record RunPlain (how : Way) (t : State) (out' : List ℕ) : Type 0 where
   pub count : ℕ
   pub bytes : List ℕ
   pub reads : Reads count how bytes
   -- There is no other reason to stop, but for 2^64 - 1 reads.
-  pub stops : how ≡ 0 → count ≡ 18446744073709551615
+  pub stops : how ≡ More → count ≡ 18446744073709551615
   -- Unless a write failed, the state is that of the bytes read; what closes their text is
   -- `closing`.
   pub lines : List ℕ
   pub closing : List ℕ
-  pub printed : (how ≡ 3 → ⊥) → Countable bytes → Printed bytes (lines ++ closing) t
+  pub printed : (how ≡ Unwritable → ⊥) → Countable bytes → Printed bytes (lines ++ closing) t
   pub closes : Countable bytes → Closing bytes closing
   -- The last lines stand at the start of the output, which else is as it was.
   pub out : List ℕ

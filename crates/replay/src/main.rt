@@ -4,13 +4,15 @@
 
 ghost use Rattle.std.specs.Prelude.{◌+◌, ◌≤◌, ◌<◌, ◌≡◌, length};
 ghost use Rattle.io.specs.Counts.{IsPrefixLen};
-ghost use Rattle.front_end.specs.State.{state, reset_state};
-ghost use Rattle.replay.specs.Played.{PlayedSome, Played, way_of, carried, TakenIn, WindowTaken, LastLines, Closed};
+ghost use Rattle.front_end.specs.State.{reset_state};
+ghost use Rattle.playback.specs.Device.{state_of, StillLent};
+ghost use Rattle.replay.specs.Played.{PlayedSome, Played, way_of, TakenIn, WindowTaken};
+ghost use Rattle.replay.specs.Played.{LastLines, Closed};
 ghost use Rattle.replay.specs.Plain.{count_of, RunPlain};
 
 use front_end::{GAINS_SIZE, MAP_SIZE, REPLY_ROOM};
-use playback::Progress;
-use session_file::KEPT_SIZE;
+use playback::{Device, Progress};
+use session_file::{KEPT_SIZE, Preamble};
 use settings::layout::BLOCK_SIZE;
 use std::io::{Read, Stdin};
 
@@ -23,14 +25,14 @@ const WINDOW_SIZE: usize = 65536;
 // A loop that is proved has to end, and nothing says that input does: no run makes so many reads.
 const MOST_READS: u64 = u64::MAX;
 
-// How it goes on.
-const MORE: usize = 0;
-
-const ENDED: usize = 1;
-
-const UNREADABLE: usize = 2;
-
-const UNWRITABLE: usize = 3;
+// How it goes on behind a window.
+#[derive(Clone, Copy)]
+enum Way {
+    More,
+    Ended,
+    Unreadable,
+    Unwritable,
+}
 
 fn main(rt: HostRuntime) {
     let mut block = [0u8; BLOCK_SIZE];
@@ -42,27 +44,22 @@ fn main(rt: HostRuntime) {
     let mut window = [0u8; WINDOW_SIZE];
     let mut out = [0u8; WINDOW_SIZE];
     let mut input = rt.stdin();
-    front_end_numbers::reset(&mut block, &mut staged, &mut live, &mut gains);
-    run(
-        &mut input,
-        &mut window,
-        &mut kept,
-        &mut block,
-        &mut staged,
-        &mut live,
-        &mut gains,
-        &mut reply,
-        &mut out,
-    );
+    let mut device = Device {
+        block: &mut block,
+        staged: &mut staged,
+        live: &mut live,
+        gains: &mut gains,
+        reply: &mut reply,
+    };
+    device.reset();
+    run(&mut input, &mut window, &mut kept, &mut device, &mut out);
 }
 
 // What goes from window to window: where the replay stands, and how it goes on.
 #[derive(Clone, Copy)]
 struct BetweenReads {
-    matched: usize,
-    number: u64,
-    have: usize,
-    how: usize,
+    progress: Progress,
+    how: Way,
 }
 
 // Window after window, until there is no more to read or to write. Answers how it stands at the
@@ -71,28 +68,27 @@ fn run(
     input: &mut Stdin,
     window: &mut [u8],
     kept: &mut [u8],
-    block: &mut [u8],
-    staged: &mut [u16],
-    live: &mut [u16],
-    gains: &mut [u16],
-    reply: &mut [u8],
+    device: &mut Device,
     out: &mut [u8],
 ) -> BetweenReads
-    requires { (state block.old staged.old live.old gains.old ≡ reset_state) × (0 < length window.old) }
-    ensures { RunPlain result.how (state block.new staged.new live.new gains.new) out.new }
+    requires { (state_of device.old ≡ reset_state) × (0 < length window.old) }
+    ensures { RunPlain result.how (state_of device.new) out.new }
 {
     let mut s = BetweenReads {
-        matched: 0,
-        number: 0,
-        have: 0,
-        how: MORE,
+        progress: Progress {
+            at: 0,
+            size: 0,
+            matched: Preamble::Matched(0),
+            number: 0,
+            have: 0,
+        },
+        how: Way::More,
     };
-    let mut turns = MOST_READS;
-    while 0 < turns {
-        s = one_window(
-            s, input, window, kept, block, staged, live, gains, reply, out,
-        );
-        turns = left(turns, s.how);
+    for _ in 0..MOST_READS {
+        s = one_window(s.progress, input, window, kept, device, out);
+        let Way::More = s.how else {
+            break;
+        };
     }
     close(s, out);
     s
@@ -100,57 +96,39 @@ fn run(
 
 // Reads a window, and replays it.
 fn one_window(
-    s: BetweenReads,
+    from: Progress,
     input: &mut Stdin,
     window: &mut [u8],
     kept: &mut [u8],
-    block: &mut [u8],
-    staged: &mut [u16],
-    live: &mut [u16],
-    gains: &mut [u16],
-    reply: &mut [u8],
+    device: &mut Device,
     out: &mut [u8],
 ) -> BetweenReads
-    ensures { WindowTaken s kept.old (state block.old staged.old live.old gains.old)
-        window.new result kept.new (state block.new staged.new live.new gains.new) }
+    ensures taken { WindowTaken from kept.old (state_of device.old)
+        window.new result kept.new (state_of device.new) }
+    ensures same { StillLent device.old device.new }
 {
     let got = input.read(window);
-    take_in(s, got, window, kept, block, staged, live, gains, reply, out)
+    take_in(from, got, window, kept, device, out)
 }
 
 // Replays what a read gave: it failed, or put so many bytes at the start of the window.
 fn take_in(
-    s: BetweenReads,
+    from: Progress,
     got: std::io::Result<usize>,
     window: &[u8],
     kept: &mut [u8],
-    block: &mut [u8],
-    staged: &mut [u16],
-    live: &mut [u16],
-    gains: &mut [u16],
-    reply: &mut [u8],
+    device: &mut Device,
     out: &mut [u8],
 ) -> BetweenReads
-    ensures { TakenIn s got window.now kept.old (state block.old staged.old live.old gains.old)
-        result kept.new (state block.new staged.new live.new gains.new) }
+    ensures taken { TakenIn from got window.now kept.old (state_of device.old)
+        result kept.new (state_of device.new) }
+    ensures same { StillLent device.old device.new }
 {
     let n = count(got, window);
-    let p = play(
-        &window[..n],
-        progress(s),
-        kept,
-        block,
-        staged,
-        live,
-        gains,
-        reply,
-        out,
-    );
+    let progress = play(&window[..n], from, kept, device, out);
     BetweenReads {
-        matched: p.matched,
-        number: p.number,
-        have: p.have,
-        how: way(got.is_err(), n, p),
+        progress,
+        how: next_way(got.is_err(), n, progress),
     }
 }
 
@@ -165,46 +143,25 @@ fn count(got: std::io::Result<usize>, window: &[u8]) -> usize
     }
 }
 
-// What is carried, at the start of a window.
-fn progress(s: BetweenReads) -> Progress
-    ensures { result ≡ carried s }
-{
-    Progress {
-        at: 0,
-        size: 0,
-        matched: s.matched,
-        number: s.number,
-        have: s.have,
-    }
-}
-
 // How it goes on after a read that failed, or gave n bytes of which those up to p.at were replayed
 // and their lines written. A file that is no session need not be read to its end.
 #[tactic(auto, unfolding(crate::specs::Played::way_of))]
-fn way(failed: bool, n: usize, p: Progress) -> usize
+fn next_way(failed: bool, n: usize, p: Progress) -> Way
     ensures { result ≡ way_of failed n p }
 {
     if p.at != n {
-        return UNWRITABLE;
+        return Way::Unwritable;
     }
     if failed {
-        return UNREADABLE;
+        return Way::Unreadable;
     }
     if n == 0 {
-        return ENDED;
+        return Way::Ended;
     }
-    if p.matched == session_file::SPOILED {
-        return ENDED;
+    match p.matched {
+        Preamble::Matched(_) => Way::More,
+        Preamble::Spoiled => Way::Ended,
     }
-    MORE
-}
-
-// The reads that are left: none, unless it goes on.
-fn left(turns: u64, how: usize) -> u64
-    requires { 0 < turns }
-    ensures { (result < turns) × (how ≡ 0 → result + 1 ≡ turns) × (0 < result → how ≡ 0) }
-{
-    if how == MORE { turns - 1 } else { 0 }
 }
 
 // Writes the last lines.
@@ -219,13 +176,11 @@ fn close(s: BetweenReads, out: &mut [u8])
 fn last_lines(s: BetweenReads, out: &mut [u8]) -> usize
     ensures { LastLines s out.old out.new result × (result ≤ length out.new) }
 {
-    if s.how == UNWRITABLE {
-        return 0;
+    match s.how {
+        Way::Unwritable => 0,
+        Way::Ended => playback::finish(s.progress, out),
+        Way::More | Way::Unreadable => playback::unreadable(out),
     }
-    if s.how != ENDED {
-        return playback::unreadable(out);
-    }
-    playback::finish(progress(s), out)
 }
 
 // One window: its lines, written as often as they fill the output. Less than all of it is taken
@@ -234,48 +189,23 @@ fn play(
     window: &[u8],
     from: Progress,
     kept: &mut [u8],
-    block: &mut [u8],
-    staged: &mut [u16],
-    live: &mut [u16],
-    gains: &mut [u16],
-    reply: &mut [u8],
+    device: &mut Device,
     out: &mut [u8],
 ) -> Progress
-    ensures { Played window.now from kept.old (state block.old staged.old live.old gains.old)
-        result kept.new (state block.new staged.new live.new gains.new) }
+    ensures played { Played window.now from kept.old (state_of device.old)
+        result kept.new (state_of device.new) }
+    ensures same { StillLent device.old device.new }
 {
     let mut p = from;
     let mut at = 0;
-    let mut end = window.len();
-    while at < end {
-        p = play_some(
-            &window[at..],
-            p,
-            kept,
-            block,
-            staged,
-            live,
-            gains,
-            reply,
-            out,
-        );
-        end = goal(end, p.at);
+    while at < window.len() {
+        p = play_some(&window[at..], p, kept, device, out);
+        if p.at == 0 {
+            break;
+        }
         at += p.at;
     }
-    Progress {
-        at,
-        size: 0,
-        matched: p.matched,
-        number: p.number,
-        have: p.have,
-    }
-}
-
-// How far to go: no further, where nothing was taken.
-fn goal(end: usize, taken: usize) -> usize
-    ensures { (taken ≡ 0 → result ≡ 0) × ((taken ≡ 0 → ⊥) → result ≡ end) }
-{
-    if taken == 0 { 0 } else { end }
+    Progress { at, size: 0, ..p }
 }
 
 // As much of the window as fills the output, and its lines written. Nothing counts as taken where
@@ -284,26 +214,17 @@ fn play_some(
     window: &[u8],
     from: Progress,
     kept: &mut [u8],
-    block: &mut [u8],
-    staged: &mut [u16],
-    live: &mut [u16],
-    gains: &mut [u16],
-    reply: &mut [u8],
+    device: &mut Device,
     out: &mut [u8],
 ) -> Progress
-    ensures { PlayedSome window.now from kept.old (state block.old staged.old live.old gains.old)
-        result kept.new (state block.new staged.new live.new gains.new) }
+    ensures played { PlayedSome window.now from kept.old (state_of device.old)
+        result kept.new (state_of device.new) }
+    ensures same { StillLent device.old device.new }
 {
-    let p = playback::replay(window, from, kept, block, staged, live, gains, reply, out);
-    let size = p.size;
-    if !io::write_all(STDOUT, &out[..size]) {
-        return Progress {
-            at: 0,
-            size: 0,
-            matched: p.matched,
-            number: p.number,
-            have: p.have,
-        };
+    let p = playback::replay(window, from, kept, device, out);
+    if io::write_all(STDOUT, &out[..p.size]) {
+        p
+    } else {
+        Progress { at: 0, ..p }
     }
-    p
 }

@@ -1,16 +1,18 @@
-// Reads the records of a session file through windows: each call takes some bytes of a window, and tells where a record that has become whole stands.
+// Reads the records of a session file through windows: each call takes some bytes from the start
+// of a window, and tells where a record that has become whole stands.
 #![tactic(auto)]
 
-ghost use Rattle.std.specs.Prelude.{◌+◌, ◌-◌, ◌≤◌, ◌<◌, ◌≡◌, length, get_or, drop, min};
+ghost use Rattle.std.specs.Prelude.{◌+◌, ◌-◌, ◌≤◌, ◌<◌, ◌≡◌, true, eqb, length, take, get_or};
 ghost use Rattle.wire.specs.Numbers.{word_at};
-ghost use Rattle.session_file.specs.Session.{preamble, preamble_size, matched_by, Files};
-ghost use Rattle.session_file.specs.Windows.{kept_size, most_record, ReaderStep};
-ghost use Rattle.session_file.specs.Windows.{nothing, whole_record, lacking, taking, kept_after, after_taking, «lies_whole»};
+ghost use Rattle.session_file.specs.Session.{preamble, preamble_size, Files};
+ghost use Rattle.session_file.specs.Windows.{kept_size, most_record, ReaderStep, matched_of};
+ghost use Rattle.session_file.specs.Windows.{found, Lies};
+ghost use Rattle.session_file.specs.Windows.{nothing, preamble_by, whole_record, lacking};
+ghost use Rattle.session_file.specs.Windows.{taking, kept_after, after_taking};
+ghost use Rattle.session_file.specs.Windows.{«lies_whole», «is_cut», whole_numbers};
 
-// Bytes of preamble; and the number that stands in place of their count where one is wrong.
+// Bytes of preamble.
 pub const PREAMBLE_SIZE: usize = 5;
-
-pub const SPOILED: usize = 6;
 
 // A record's length.
 const LENGTH_SIZE: usize = 2;
@@ -23,65 +25,106 @@ pub const KEPT_SIZE: usize = LENGTH_SIZE + PACKET_KEPT;
 // The longest record, with its length.
 pub const MOST_RECORD: usize = LENGTH_SIZE + 65535;
 
-// Where a whole record's packet stands.
-pub const NOWHERE: usize = 0;
-
-pub const IN_WINDOW: usize = 1;
-
-pub const IN_KEPT: usize = 2;
-
-// What a step took: where it stopped in the window, how much there is of the preamble and of the record under way, and the packet of a record that
-// has become whole, from start to end.
-#[derive(Clone, Copy)]
-pub struct Taken {
-    pub at: usize,
-    pub matched: usize,
-    pub have: usize,
-    pub place: usize,
-    pub start: usize,
-    pub end: usize,
+// How far the preamble has come: so many of its bytes are there and right; or one is wrong.
+#[derive(Clone, Copy, PartialEq, Eq)]
+pub enum Preamble {
+    Matched(usize),
+    Spoiled,
 }
 
-// Takes bytes of the window from a place on: one of the preamble, a record that lies whole in the window, which is not copied, or as many as the record under
-// way is known to lack; all of them, where the preamble was wrong.
-pub fn next(window: &[u8], at: usize, matched: usize, have: usize, kept: &mut [u8]) -> Taken
-    requires { (at < length window.now) × (kept_size ≤ length kept.old) × (have ≤ most_record) }
-    ensures { ReaderStep window.now at matched have kept.old result kept.new }
+impl Preamble {
+    // Whether all of them are.
+    pub fn is_whole(self) -> bool
+        ensures { result ≡ eqb (matched_of self) preamble_size }
+    {
+        match self {
+            Preamble::Matched(n) => n == PREAMBLE_SIZE,
+            Preamble::Spoiled => false,
+        }
+    }
+}
+
+// Where the packet of a whole record stands: in the window, or in what is kept.
+#[derive(Clone, Copy)]
+pub enum Found {
+    Window { start: usize, end: usize },
+    Kept { start: usize, end: usize },
+}
+
+impl Found {
+    // The packet.
+    pub fn packet<'a>(self, window: &'a [u8], kept: &'a [u8]) -> &'a [u8]
+        requires { Lies self window.now kept.now }
+        ensures { result.now ≡ found self window.now kept.now }
+    {
+        match self {
+            Found::Window { start, end } => &window[start..end],
+            Found::Kept { start, end } => &kept[start..end],
+        }
+    }
+}
+
+// What a step took: so many bytes of the window; how much there is then of the preamble and of the
+// record under way; and the packet of a record that has become whole.
+#[derive(Clone, Copy)]
+pub struct Taken {
+    pub size: usize,
+    pub matched: Preamble,
+    pub have: usize,
+    pub found: Option<Found>,
+}
+
+// Takes bytes of the window: one of the preamble, a record that lies whole in the window, which is
+// not copied, or as many as the record under way is known to lack; all of them, where the preamble
+// was wrong.
+pub fn next(window: &[u8], matched: Preamble, have: usize, kept: &mut [u8]) -> Taken
+    requires { (0 < length window.now) × (kept_size ≤ length kept.old) × (have ≤ most_record) }
+    ensures { ReaderStep window.now matched have kept.old result kept.new }
 {
-    if matched < PREAMBLE_SIZE {
-        return preamble_byte(window, at, matched, have);
-    }
-    if PREAMBLE_SIZE < matched {
+    let Preamble::Matched(n) = matched else {
         return none_yet(window.len(), matched, have);
+    };
+    if n == PREAMBLE_SIZE {
+        return record_bytes(window, have, kept);
     }
-    if lies_whole(window, at, have) {
-        return whole_at(window, at);
+    if n < PREAMBLE_SIZE {
+        return preamble_byte(window[0], n, have);
     }
-    more(window, at, have, kept)
+    none_yet(window.len(), matched, have)
 }
 
 // A byte of the preamble.
-fn preamble_byte(window: &[u8], at: usize, matched: usize, have: usize) -> Taken
-    requires { (at < length window.now) × (matched < preamble_size) }
-    ensures { result ≡ nothing (at + 1) (matched_by matched (get_or window.now at 0)) have }
+fn preamble_byte(byte: u8, matched: usize, have: usize) -> Taken
+    requires { matched < preamble_size }
+    ensures { result ≡ nothing 1 (preamble_by matched byte) have }
 {
-    if window[at] == preamble_at(matched) {
-        return none_yet(at + 1, matched + 1, have);
+    if byte == preamble_at(matched) {
+        return none_yet(1, Preamble::Matched(matched + 1), have);
     }
-    none_yet(at + 1, SPOILED, have)
+    none_yet(1, Preamble::Spoiled, have)
 }
 
 // Bytes were taken, and no record has become whole.
-fn none_yet(at: usize, matched: usize, have: usize) -> Taken
-    ensures { result ≡ nothing at matched have }
+fn none_yet(size: usize, matched: Preamble, have: usize) -> Taken
+    ensures { result ≡ nothing size matched have }
 {
     Taken {
-        at,
+        size,
         matched,
         have,
-        place: NOWHERE,
-        start: 0,
-        end: 0,
+        found: None,
+    }
+}
+
+// So many were, and with them one has.
+fn whole(size: usize, found: Found) -> Taken
+    ensures { result ≡ whole_numbers size found }
+{
+    Taken {
+        size,
+        matched: Preamble::Matched(PREAMBLE_SIZE),
+        have: 0,
+        found: Some(found),
     }
 }
 
@@ -94,55 +137,62 @@ fn preamble_at(i: usize) -> u8
     bytes[i]
 }
 
-// Whether a record begins here, and lies in the window with all its bytes.
-fn lies_whole(window: &[u8], at: usize, have: usize) -> bool
-    requires { at < length window.now }
-    ensures { result ≡ «lies_whole» window.now at have }
+// Bytes of a record.
+fn record_bytes(window: &[u8], have: usize, kept: &mut [u8]) -> Taken
+    requires { (0 < length window.now) × (kept_size ≤ length kept.old) × (have ≤ most_record) }
+    ensures { ReaderStep window.now (Preamble.Matched preamble_size) have kept.old result kept.new }
 {
-    if have != 0 {
-        return false;
+    if lies_whole(window, have) {
+        return whole_in(window);
     }
-    at + 2 + wire::word(window, at) <= window.len()
+    more(window, have, kept)
+}
+
+// Whether a record begins here, and lies in the window with all its bytes.
+fn lies_whole(window: &[u8], have: usize) -> bool
+    ensures { result ≡ «lies_whole» window.now have }
+{
+    have == 0 && LENGTH_SIZE + wire::word(window, 0) <= window.len()
 }
 
 // Such a record.
-fn whole_at(window: &[u8], at: usize) -> Taken
-    requires { at + 2 + word_at window.now at ≤ length window.now }
-    ensures { result ≡ whole_record at (word_at window.now at) }
+fn whole_in(window: &[u8]) -> Taken
+    requires { 2 + word_at window.now 0 ≤ length window.now }
+    ensures { result ≡ whole_record (word_at window.now 0) }
 {
-    let size = wire::word(window, at);
-    Taken {
-        at: at + 2 + size,
-        matched: PREAMBLE_SIZE,
-        have: 0,
-        place: IN_WINDOW,
-        start: at + 2,
-        end: at + 2 + least(size, PACKET_KEPT),
-    }
+    let size = wire::word(window, 0);
+    let end = LENGTH_SIZE + size.min(PACKET_KEPT);
+    whole(
+        LENGTH_SIZE + size,
+        Found::Window {
+            start: LENGTH_SIZE,
+            end,
+        },
+    )
 }
 
 // Bytes of a record that the window has in part.
-fn more(window: &[u8], at: usize, have: usize, kept: &mut [u8]) -> Taken
-    requires { (at < length window.now) × (kept_size ≤ length kept.old) × (have ≤ most_record) }
+fn more(window: &[u8], have: usize, kept: &mut [u8]) -> Taken
+    requires { (0 < length window.now) × (kept_size ≤ length kept.old) × (have ≤ most_record) }
     ensures { (kept.new
-        ≡ kept_after kept.old have (drop at window.now) (taking window.now at have kept.old))
-        × (result ≡ after_taking (at + taking window.now at have kept.old)
-        (have + taking window.now at have kept.old) kept.new)
-        × (result.have ≤ most_record) × (1 ≤ taking window.now at have kept.old) }
+        ≡ kept_after kept.old have (take (taking window.now have kept.old) window.now))
+        × (result ≡ after_taking (taking window.now have kept.old)
+        (have + taking window.now have kept.old) kept.new)
+        × (result.have ≤ most_record) × (1 ≤ taking window.now have kept.old) }
 {
-    let n = least(missing(have, kept), window.len() - at);
-    keep(window, at, n, have, kept);
-    judged(at + n, have + n, kept)
+    let n = missing(have, kept).min(window.len());
+    keep(&window[..n], have, kept);
+    judged(n, have + n, kept)
 }
 
 // How many bytes the record under way lacks, as far as is known: first those of its length.
 fn missing(have: usize, kept: &[u8]) -> usize
     ensures { (result ≡ lacking have kept.now) × (1 ≤ result) × (result ≤ most_record) }
 {
-    if have < 2 {
-        return 2 - have;
+    if have < LENGTH_SIZE {
+        return LENGTH_SIZE - have;
     }
-    let size = 2 + wire::word(kept, 0);
+    let size = LENGTH_SIZE + wire::word(kept, 0);
     if size <= have {
         return 1;
     }
@@ -150,41 +200,38 @@ fn missing(have: usize, kept: &[u8]) -> usize
 }
 
 // Keeps the bytes taken, as far as there is room for them.
-fn keep(window: &[u8], at: usize, n: usize, have: usize, kept: &mut [u8])
-    requires { (at + n ≤ length window.now) × (kept_size ≤ length kept.old) }
-    ensures { kept.new ≡ kept_after kept.old have (drop at window.now) n }
+fn keep(bytes: &[u8], have: usize, kept: &mut [u8])
+    requires { kept_size ≤ length kept.old }
+    ensures { kept.new ≡ kept_after kept.old have bytes.now }
 {
-    if KEPT_SIZE <= have {
-        return;
+    if have < KEPT_SIZE {
+        let n = bytes.len().min(KEPT_SIZE - have);
+        kept[have..have + n].copy_from_slice(&bytes[..n]);
     }
-    let fits = least(n, KEPT_SIZE - have);
-    wire::copy(kept, have, window, at, fits);
 }
 
 // The record under way has so many bytes: whole, or not.
-fn judged(at: usize, have: usize, kept: &[u8]) -> Taken
-    ensures { (result ≡ after_taking at have kept.now) × (result.have ≤ most_record) }
+fn judged(size: usize, have: usize, kept: &[u8]) -> Taken
+    ensures { (result ≡ after_taking size have kept.now) × (result.have ≤ most_record) }
 {
-    if have < 2 {
-        return none_yet(at, PREAMBLE_SIZE, have);
+    if is_cut(have, kept) {
+        return none_yet(size, Preamble::Matched(PREAMBLE_SIZE), have);
     }
-    if have < 2 + wire::word(kept, 0) {
-        return none_yet(at, PREAMBLE_SIZE, have);
-    }
-    Taken {
-        at,
-        matched: PREAMBLE_SIZE,
-        have: 0,
-        place: IN_KEPT,
-        start: 2,
-        end: least(have, KEPT_SIZE),
-    }
+    let end = have.min(KEPT_SIZE);
+    whole(
+        size,
+        Found::Kept {
+            start: LENGTH_SIZE,
+            end,
+        },
+    )
 }
 
-fn least(a: usize, b: usize) -> usize
-    ensures { result ≡ min a b }
+// Whether bytes of it are lacking.
+fn is_cut(have: usize, kept: &[u8]) -> bool
+    ensures { (result ≡ «is_cut» have kept.now) × (result ≡ true → have ≤ most_record) }
 {
-    if a < b { a } else { b }
+    have < LENGTH_SIZE || have < LENGTH_SIZE + wire::word(kept, 0)
 }
 
 // Nothing to run: its contract is what holds of whole files.

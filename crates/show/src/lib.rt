@@ -1,19 +1,17 @@
 // Printing for the programs.
 #![tactic(auto)]
 
-// The first n bytes, in hexadecimal, with a space before each.
-pub fn bytes(s: &[u8], n: usize) {
-    let mut i = 0;
-    while i < n {
-        if s.len() <= i {
-            return;
-        }
-        one(s[i]);
-        i += 1;
-    }
-}
+use std::fmt;
 
-fn one(b: u8) {
-    io::write_all(1, b" ");
-    io::print_hex(1, b as u64, 2);
+// Bytes in hexadecimal, with a space before each.
+#[derive(Clone, Copy)]
+pub struct Hex<'a>(pub &'a [u8]);
+
+impl fmt::Display for Hex<'_> {
+    fn fmt<W: fmt::Write>(&self, f: &mut fmt::Formatter<W>) -> fmt::Result {
+        for b in self.0 {
+            write!(f, " {b:02x}")?;
+        }
+        Ok(())
+    }
 }

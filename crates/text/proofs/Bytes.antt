@@ -1,11 +1,13 @@
 -- Rule 9.2: bytes in hex, one more for each turn of a loop.
 use Prim.Native.Nat.{ℕ, ◌+◌, ◌*◌, ◌/◌, ◌%◌, ◌≤◌, ◌<◌}
-use mathlib.Core.Path.{◌≡◌, refl, ap, ◌∙◌}
+use mathlib.Core.Path.{◌≡◌, refl, sym, ap, ◌∙◌}
 use mathlib.Core.List.{List, [], ◌∷◌, ◌++◌}
 use native.Mathlib.Numerals.{add-one}
 use native.Mathlib.Omega.{arith}
 use lib.ListN.{length, take, get_or}
-use lib.Seq.{sets, length-sets, length-take-le, take-suc}
+use borrow.Rule.Slice.PartMut.{put_mid}
+use Rattle.std.proofs.lemmas.Slice.{put_mid-paste}
+use lib.Seq.{sets, sets-eq, length-take-le, take_all, take-suc}
 use Rattle.wire.proofs.Laws.{sets-append}
 use Rattle.text.specs.Text.{blank, digit, hex}
 
@@ -28,36 +30,38 @@ unfolding hex
 hex-turn bs i h = rw (add-one, take-suc bs i 0, hex-append)
 
 -- The text of the first i bytes stands in the buffer.
-pub record Writing (out₀ : List ℕ) (at : ℕ) (bytes : List ℕ) (n : ℕ) (out : List ℕ) (end i : ℕ) : Type 0 where
-  pub within : i ≤ n
+pub record Writing (out₀ : List ℕ) (at : ℕ) (bytes : List ℕ) (out : List ℕ) (end i : ℕ) : Type 0 where
+  pub within : i ≤ length bytes
   pub ends : end ≡ at + 3 * i
   pub written : out ≡ sets out₀ at (hex (take i bytes))
 
-pub write-start : (out : List ℕ) (at : ℕ) (bytes : List ℕ) (n : ℕ) → Writing out at bytes n out at 0
+pub write-start : (out : List ℕ) (at : ℕ) (bytes : List ℕ) → Writing out at bytes out at 0
 unfolding hex
-write-start out at bytes n = record { within = omega arith; ends = omega arith; written = refl }
+write-start out at bytes = record { within = omega arith; ends = omega arith; written = refl }
 
-module _ {out₀ : List ℕ} {at : ℕ} {bytes : List ℕ} {n : ℕ} {out : List ℕ} {end i : ℕ} (r : Writing out₀ at bytes n out end i) where
-  pub write-long : length out ≡ length out₀
-  write-long = rw r.written (length-sets out₀ at (hex (take i bytes)))
+module _ {out₀ : List ℕ} {at : ℕ} {bytes : List ℕ} {out : List ℕ} {end i : ℕ} (r : Writing out₀ at bytes out end i) where
+  long : length (hex (take i bytes)) ≡ 3 * i
+  long = length-hex (take i bytes) ∙ ap (◌*◌ 3) (length-take-le i bytes r.within)
 
-  long : i ≤ length bytes → length (hex (take i bytes)) ≡ 3 * i
-  long h = length-hex (take i bytes) ∙ ap (◌*◌ 3) (length-take-le i bytes h)
-
-  pub write-turn : n ≤ length bytes → i < n → Writing out₀ at bytes n (sets out end (in_hex (get_or bytes i 0))) (end + 3) (i + 1)
-  write-turn hb h =
-      let e : at + length (hex (take i bytes)) ≡ end = omega (arith, long (omega arith), r.ends) in
+  pub write-turn : i < length bytes → Writing out₀ at bytes (sets out end (in_hex (get_or bytes i 0))) (end + 3) (i + 1)
+  write-turn h =
+      let e : at + length (hex (take i bytes)) ≡ end = omega (arith, long, r.ends) in
       record {
         within = omega arith;
         ends = omega (arith, r.ends);
         written =
-            rw (r.written, hex-turn bytes i (omega arith))
-            (rw e at (sets-append out₀ at (hex (take i bytes)) (in_hex (get_or bytes i 0))));
+            rw (r.written, hex-turn bytes i h) (rw e at (sets-append out₀ at (hex (take i bytes)) (in_hex (get_or bytes i 0))));
       }
 
-  pub write_done : n ≤ length bytes → n ≤ i
-      → (end ≡ at + length (hex (take n bytes))) × (out ≡ sets out₀ at (hex (take n bytes))) × (end ≡ at + 3 * n)
-  write_done hb h =
-      let e : i ≡ n = omega (arith, r.within) in
-      let ends : end ≡ at + length (hex (take i bytes)) = omega (arith, long (omega arith), r.ends) in
-      (rw e at ends, rw e at r.written, omega (arith, r.ends))
+  pub write_done : length bytes ≤ i → (end ≡ at + length (hex bytes)) × (out ≡ sets out₀ at (hex bytes)) × (end ≡ at + 3 * length bytes)
+  write_done all =
+      let e : take i bytes ≡ bytes = take_all i bytes all in
+      let ends : end ≡ at + length (hex (take i bytes)) = omega (arith, long, r.ends) in
+      (rw e at ends, rw e at r.written, omega (arith, r.ends, r.within))
+
+-- Words copied over a part of a buffer.
+pub copied : (out words part : List ℕ) (at k : ℕ) → part ≡ words → length words ≡ k → at + length words ≤ length out
+    → put_mid at k out part ≡ sets out at words
+copied out words part at k e same room =
+    put_mid-paste at k out part words (length words) e same refl
+    ∙ rw (take_all (length words) words (omega arith)) (sym (sets-eq words out at room))

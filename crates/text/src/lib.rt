@@ -5,17 +5,47 @@ ghost use Rattle.std.specs.Prelude.{◌+◌, ◌*◌, ◌/◌, ◌%◌, ◌≤�
 ghost use Rattle.std.proofs.lemmas.List.Edits.{sets};
 ghost use Rattle.text.specs.Text.{blank, decimal, digit as digitOf, hex as hexOf, most_digits, Puts};
 ghost use Rattle.text.specs.Plain.{Decimal, Hex};
+ghost use Rattle.text.specs.Page.{PutOn};
 
-use wire::copy;
+// A lent buffer, and where the text in it ends.
+#[derive(Drop)]
+pub struct Page<'a> {
+    pub out: &'a mut [u8],
+    pub size: usize,
+}
 
-// A number in decimal, rule 9.2.
-pub fn put_number(out: &mut [u8], at: usize, n: u64) -> usize
-    requires { at + most_digits ≤ length out.old }
-    ensures { Puts at (decimal n) out.old out.new result × (result ≤ at + most_digits) × Decimal n (decimal n) }
-{
-    let k = count(n);
-    store(out, at, n, k);
-    at + k
+impl Page<'_> {
+    // A number in decimal, rule 9.2.
+    pub fn put_number(&mut self, n: u64)
+        requires { self.old.size + most_digits ≤ length self.old.out.now }
+        ensures put { PutOn (decimal n) self.old self.new }
+        ensures most { self.new.size ≤ self.old.size + most_digits }
+        ensures reads { Decimal n (decimal n) }
+    {
+        let k = count(n);
+        store(self.out, self.size, n, k);
+        self.size += k;
+    }
+
+    // Bytes in hex, upper case, a blank before each: rule 9.2.
+    pub fn put_hex(&mut self, bytes: &[u8])
+        requires { self.old.size + 3 * length bytes.now ≤ length self.old.out.now }
+        ensures put { PutOn (hexOf bytes.now) self.old self.new }
+        ensures three { self.new.size ≡ self.old.size + 3 * length bytes.now }
+        ensures reads { Hex bytes.now (hexOf bytes.now) }
+    {
+        self.size = store_all(self.out, self.size, bytes);
+    }
+
+    // Words as they stand.
+    pub fn put_text(&mut self, words: &[u8])
+        requires { self.old.size + length words.now ≤ length self.old.out.now }
+        ensures { PutOn words.now self.old self.new }
+    {
+        let end = self.size + words.len();
+        self.out[self.size..end].copy_from_slice(words);
+        self.size = end;
+    }
 }
 
 // How many digits a number has: four for each turn, and the one to four that are left.
@@ -67,18 +97,16 @@ fn store_pair(out: &mut [u8], at: usize, v: u64)
     out[at + 1] = digit(v % 10);
 }
 
-// The first n bytes in hex, upper case, a blank before each: rule 9.2.
-pub fn put_hex(out: &mut [u8], at: usize, bytes: &[u8], n: usize) -> usize
-    requires { (n ≤ length bytes.now) × (at + 3 * n ≤ length out.old) }
-    ensures { Puts at (hexOf (take n bytes.now)) out.old out.new result
-        × (result ≡ at + 3 * n) × Hex (take n bytes.now) (hexOf (take n bytes.now)) }
+// Bytes in hex; answers where they end.
+fn store_all(out: &mut [u8], at: usize, bytes: &[u8]) -> usize
+    requires { at + 3 * length bytes.now ≤ length out.old }
+    ensures { Puts at (hexOf bytes.now) out.old out.new result
+        × (result ≡ at + 3 * length bytes.now) × Hex bytes.now (hexOf bytes.now) }
 {
     let mut end = at;
-    let mut i = 0;
-    while i < n {
-        store_hex(out, end, bytes[i]);
+    for b in bytes {
+        store_hex(out, end, *b);
         end += 3;
-        i += 1;
     }
     end
 }
@@ -99,14 +127,4 @@ fn digit(d: u64) -> u8
     ensures { result ≡ digitOf d }
 {
     if d < 10 { 48 + d as u8 } else { 55 + d as u8 }
-}
-
-// Words as they stand.
-pub fn put_text(out: &mut [u8], at: usize, words: &[u8]) -> usize
-    requires { at + length words.now ≤ length out.old }
-    ensures { Puts at words.now out.old out.new result }
-{
-    let n = words.len();
-    copy(out, at, words, 0, n);
-    at + n
 }

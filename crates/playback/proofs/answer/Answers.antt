@@ -1,15 +1,18 @@
+use Rattle.std.proofs.Common.{refl, arith}
+use lib.ListN.{length-take}
 use Rattle.playback.proofs.Turns.{answer-done, reply-fits}
-use native.Mathlib.Omega.{arith}
-use mathlib.Core.Path.{refl}
 use Rattle.playback.proofs.answer.Goals as goal
 
--- src/lib.rt:142:9
-pub put_line-size-requires : goal.put_line-size-requires
-put_line-size-requires c = let fits = reply-fits _ _ _ c.handle-o.ensures.outcome in
-    (omega arith, fits.0, fits.1)
+pub replied-requires : goal.replied-requires
+replied-requires c = (reply-fits _ _ _ c.handle-o.ensures.outcome).0
 
--- src/lib.rt:126:1
-pub returns : goal.returns
-returns c = let printed = c.put_line-size.ensures in
-    let handled = c.handle-o.ensures in
-    answer-done handled.outcome printed.0 printed.1 printed.2 printed.3 printed.4 refl refl refl refl
+pub print_line-size-requires : goal.print_line-size-requires
+print_line-size-requires c =
+    let fits = (reply-fits _ _ _ c.handle-o.ensures.outcome).1 in
+    (omega arith, rw c.replied.ensures (omega (arith, length-take c.handle-o.result.size c.handle-o.new.self.reply.now)))
+
+pub returns-clause-answered : goal.returns-clause-answered
+returns-clause-answered c =
+    let put = rw c.replied.ensures at c.print_line-size.ensures.put in
+    let reads = rw c.replied.ensures at c.print_line-size.ensures.reads in
+    answer-done c.handle-o.ensures.outcome put c.print_line-size.ensures.most reads.0 reads.1 reads.2 refl refl refl refl

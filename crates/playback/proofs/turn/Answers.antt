@@ -1,16 +1,13 @@
-use Rattle.playback.proofs.Turns.{turned_none, turned-window, turned-kept}
+use Rattle.playback.proofs.Turns.{turned_none, turned-one, rest-is}
 use Rattle.playback.proofs.turn.Goals as goal
 
--- src/lib.rt:115:9
-pub returns-then-t-eq-NOWHERE : goal.returns-then-t-eq-NOWHERE
-returns-then-t-eq-NOWHERE c = turned_none _ _ _ _ _ _ _ _ c.next-t.ensures c.if-t-eq-NOWHERE.true c.requires.4
+pub packet-requires : goal.packet-requires
+packet-requires c = c.next-t.ensures.within.lies c.in-Some.is
 
--- src/lib.rt:120:9
-pub returns-then-t-eq-IN_WINDOW : goal.returns-then-t-eq-IN_WINDOW
-returns-then-t-eq-IN_WINDOW c = let given = c.requires in
-    turned-window _ _ _ _ _ _ _ c.next-t.ensures c.if-t-eq-NOWHERE.false c.if-t-eq-IN_WINDOW.true given.4 _ given.2 _ _ _ _ c.answer.ensures
+pub returns-in-None-clause-turned : goal.returns-in-None-clause-turned
+returns-in-None-clause-turned c = turned_none (rw rest-is at c.next-t.ensures) c.in-None.is c.requires.0 c.requires.4
 
--- src/lib.rt:88:1
-pub returns : goal.returns
-returns c = let given = c.requires in
-    turned-kept _ _ _ _ _ _ _ c.next-t.ensures c.if-t-eq-NOWHERE.false c.if-t-eq-IN_WINDOW.false given.4 _ given.2 _ _ _ _ c.answer-2.ensures
+pub returns-in-Some-clause-turned : goal.returns-in-Some-clause-turned
+returns-in-Some-clause-turned c =
+    turned-one c.in-Some.found (rw rest-is at c.next-t.ensures) c.in-Some.is c.requires.0 c.requires.4 c.requires.2
+    (rw (c.packet.ensures, rest-is) at c.answer.ensures.answered)

@@ -1,11 +1,8 @@
-use Rattle.std.proofs.Common.{◌<◌, ◌≡◌}
-use Rattle.front_end.specs.State.{state}
+use Rattle.std.proofs.Common.{◌≡◌}
+use Rattle.playback.specs.Device.{state_of}
+use Rattle.replay.specs.declared.Way.TheVariants.{More}
 use Rattle.replay.proofs.FromReset.{SoFar}
 use Rattle.replay.proofs.run.Given as goal
 
-abbrev pub invariant-loop-turns : goal.invariant-loop-turns
-invariant-loop-turns l =
-    record { so_far : SoFar l.s l.kept (state l.block l.staged l.live l.gains) l.turns; goes_on : 0 < l.turns → l.s.how ≡ 0 }
-
-abbrev pub decreases-loop-turns : goal.decreases-loop-turns
-decreases-loop-turns l = l.turns
+abbrev pub invariant-loop : goal.invariant-loop
+invariant-loop l = record { so_far : SoFar l.counter l.s l.kept (state_of l.device); goes_on : l.s.how ≡ More }

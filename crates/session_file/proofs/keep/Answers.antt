@@ -1,14 +1,15 @@
-use mathlib.Core.Path.{refl, ◌∙◌}
-use Rattle.session_file.specs.Windows.{kept_after}
+use Rattle.std.proofs.Common.{refl, arith}
 use borrow.Author.Tests.{lt-ltb, le-ltb}
+use Rattle.session_file.specs.Windows.{kept_after}
+use Rattle.session_file.proofs.Kept.{kept-paste}
 use Rattle.session_file.proofs.keep.Goals as goal
 
--- src/lib.rt:155:9
-pub returns-then-have-ge-KEPT_SIZE : goal.returns-then-have-ge-KEPT_SIZE
+pub returns-then-have-lt-KEPT_SIZE : goal.returns-then-have-lt-KEPT_SIZE
 unfolding kept_after
-returns-then-have-ge-KEPT_SIZE c = rw (le-ltb _ _ c.if-have-ge-KEPT_SIZE.true) refl
+returns-then-have-lt-KEPT_SIZE c =
+    rw (lt-ltb c.args.have 515 c.if-have-lt-KEPT_SIZE.true, ← c.min-n.ensures)
+    (kept-paste _ _ _ _ _ _ c.copy_from_slice.ensures.after (omega arith) (omega arith))
 
--- src/lib.rt:150:1
-pub returns : goal.returns
+pub returns-else-have-lt-KEPT_SIZE : goal.returns-else-have-lt-KEPT_SIZE
 unfolding kept_after
-returns c = c.copy.ensures ∙ rw (lt-ltb _ _ c.if-have-ge-KEPT_SIZE.false, ← c.least-fits.ensures) refl
+returns-else-have-lt-KEPT_SIZE c = rw (le-ltb c.args.have 515 c.if-have-lt-KEPT_SIZE.false) refl

@@ -1,9 +1,0 @@
--- Five places of each list.
-use Prim.Native.Nat.{◌-◌, ◌≤◌}
-use Rattle.bench.proofs.show_rooms.Given as goal
-
-abbrev pub invariant-loop-k : goal.invariant-loop-k
-invariant-loop-k l = l.k ≤ 5
-
-abbrev pub decreases-loop-k : goal.decreases-loop-k
-decreases-loop-k l = 5 - l.k
