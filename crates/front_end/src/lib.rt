@@ -1,5 +1,6 @@
-// The front end's part that needs no table: the decision on a packet, the settings of the block, and replies of a status. Both families of
-// entries, on 16-bit tables and on tables lent as bytes, stand on it.
+// The front end's part that needs no table: the decision on a packet, the settings of the block,
+// and replies of a status. Both families of entries, on 16-bit tables and on tables lent as bytes,
+// stand on it.
 #![tactic(auto)]
 
 pub mod mark;
@@ -59,7 +60,8 @@ pub fn decide(packet: &[u8], block: &[u8]) -> Result<Command, Refusal>
 // gains (2Bh, rules 5.8 and 5.11).
 #[tactic(auto, unfolding(crate::specs::Commands::runs_past))]
 fn runs_past(command: Command, data: &[u8], block: &[u8]) -> bool
-    ensures { result ≡ «runs_past» command.opcode (eqb (is_read command.options) 1) «data».now block.now }
+    ensures { result ≡ «runs_past» command.opcode (eqb (is_read command.options) 1)
+        «data».now block.now }
 {
     let reads = command.header().reads();
     match command.opcode {
@@ -259,8 +261,9 @@ pub fn refuse(why: Refusal, packet: &[u8], reply: &mut [u8]) -> Outcome
     Outcome { refused, size }
 }
 
-// What an accepted write's command stores in the block; 2Bh and 34h store in tables alone. The row mark is put behind it (`mark`). What any other stores ends its data, behind the pin or port. Sizes come
-// by `size_of`, since the table of opcodes would be built on the stack once more.
+// What an accepted write's command stores in the block; 2Bh and 34h store in tables alone. The row
+// mark is put behind it (`mark`). What any other stores ends its data, behind the pin or port.
+// Sizes come by `size_of`, which the places stand with.
 pub fn store(block: &mut [u8], opcode: usize, options: usize, data: &[u8])
     requires { (length block.old ≡ block_size) × (is_read options ≡ 0)
         × (first (judgement opcode options «data».now) ≡ 0) }

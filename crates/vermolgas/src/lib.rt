@@ -28,7 +28,10 @@ pub extern "C" fn vermolgas_reset(
         (lent block.old staged.old live.old gains.old)
         (lent_reset result (lent block.new staged.new live.new gains.new)) }
 {
-    front_end_bytes::reset(block, staged, live, gains) as u64
+    match front_end_bytes::reset(block, staged, live, gains) {
+        Ok(()) => 0,
+        Err(why) => why.number() as u64,
+    }
 }
 
 // One packet on a state, with the reply that it asks for.

@@ -16,19 +16,23 @@ use Rattle.front_end.proofs.acknowledge.Goals as goal
 pub returns-then-not-answers : goal.returns-then-not-answers
 returns-then-not-answers c = let args = c.args in
     let n = status_if args.refused in
-    let none : answers n args.packet.now ≡ false = rw c.status-status.ensures at (sym c.answers.ensures ∙ c.if-not-answers.true) in
+    let none : answers n args.packet.now ≡ false =
+    rw c.status-status.ensures at (sym c.answers.ensures ∙ c.if-not-answers.true) in
     unanswered n (fault_if args.refused) args.packet.now _ none
 
 pub returns : goal.returns
 returns c = let args = c.args in
     let n = status_if args.refused in
     let f = fault_if args.refused in
-    let some : answers n args.packet.now ≡ true = rw c.status-status.ensures at (sym c.answers.ensures ∙ c.if-not-answers.false) in
+    let some : answers n args.packet.now ≡ true =
+    rw c.status-status.ensures at (sym c.answers.ensures ∙ c.if-not-answers.false) in
     let same = answered-status n f args.packet.now some in
     let put = c.put_place-n.ensures in
     let few = place-few n f in
     let lent = rw (← put.0) at
-    (lent-on _ args.reply.now c.put_place-n.new.out (length args.reply.now - 3) (omega arith) (omega arith) put.1 (eqb (has_checksum (header_of args.packet.now)) 1) n) in
-    let sum : c.has_checksum.result ≡ eqb (has_checksum (header_of args.packet.now)) 1 = c.has_checksum.ensures ∙ rw c.header_of.ensures in
+    (lent-on _ args.reply.now c.put_place-n.new.out (length args.reply.now - 3) (omega arith) (omega arith)
+    put.1 (eqb (has_checksum (header_of args.packet.now)) 1) n) in
+    let sum : c.has_checksum.result ≡ eqb (has_checksum (header_of args.packet.now)) 1 =
+    c.has_checksum.ensures ∙ rw c.header_of.ensures in
     let sealed = rw (sum, c.status-status.ensures) at c.seal.ensures in
     rw same (sealed.0 ∙ lent.0, sealed.1 ∙ lent.1)
