@@ -84,24 +84,24 @@ rows-packed block n status count lowest e r =
 -- Gains compressed and pairs split: there are few of each, so each is what its bits say.
 pub compress-packed : (gains room : List ℕ) (n : ℕ) (o : CompressOut) → n ≡ packed_compress o → o.status < 256 → CompressedBytes gains room o
     → PackedCompress gains room n o.room
-compress-packed gains room n o e small told =
+compress-packed gains room n o said small told =
     record {
-      packed = e ∙ ap packed_compress told.outcome;
-      plain = record { status = o.status; pairs = o.pairs; bits = e; small = small; plain = told.plain };
+      packed = said ∙ ap packed_compress told.outcome;
+      plain = record { status = o.status; pairs = o.pairs; bits = said; small = small; plain = told.plain };
       promise = told;
     }
 
 pub split-packed : (colour start : ℕ) (pairs batch : List ℕ) (n : ℕ) (o : SplitOut) → n ≡ packed_split o → o.status < 256
     → SplitBytes colour start pairs batch o → PackedSplit colour start pairs batch n o.batch
-split-packed colour start pairs batch n o e small told =
+split-packed colour start pairs batch n o said small told =
     record {
-      packed = e ∙ ap packed_split told.right.outcome;
+      packed = said ∙ ap packed_split told.right.outcome;
       plain =
           record {
             status = o.status;
             packets = o.packets;
             size = o.bytes;
-            bits = e;
+            bits = said;
             small = (small, omega (arith, told.right.few), omega (arith, told.right.few));
             plain = told.right.plain;
           };
@@ -111,16 +111,16 @@ split-packed colour start pairs batch n o e small told =
 -- An upload planned.
 pub plan-packed : (points : ℕ) (held wanted : List ℕ) (before : PlanLists) (n : ℕ) (o : PlanOut) → n ≡ packed_plan o → o.status < 256
     → PlannedBytes points held wanted before o → PackedPlan points held wanted before n o.left
-plan-packed points held wanted before n o e small told =
+plan-packed points held wanted before n o said small told =
     let few = answer-small told in
     record {
-      packed = e ∙ ap packed_plan told.outcome;
+      packed = said ∙ ap packed_plan told.outcome;
       plain =
           record {
             status = o.status;
             packets = o.packets;
             size = o.bytes;
-            bits = e;
+            bits = said;
             small = (small, omega (arith, few), omega (arith, few));
             plain = told.plain;
           };

@@ -1,6 +1,5 @@
 -- Status, packets and bytes are packed side by side.
-use Rattle.std.proofs.Common.{arith, ◌≤◌}
-use Rattle.upload.specs.Plain.{PlanLists}
+use Rattle.std.proofs.Common.{arith}
 use Rattle.upload.specs.Planning.{plan_lists, plan_out}
 use Rattle.upload.proofs.Small.{answer-small}
 use Rattle.planning.specs.Refusals.{number_of as code}
