@@ -4,8 +4,8 @@
 
 ghost use Rattle.std.specs.Prelude.{◌<◌, length};
 
-use packet::Reading;
-use planning::Answer;
+use batch::Sent;
+use packet::Command;
 use show::Hex;
 use std::io;
 use wire::Refusal;
@@ -29,6 +29,12 @@ const LENGTHS: [[usize; 7]; 14] = [
     [4, 8, 8, 3968, 127, 1984, 8032],
     [4, 8, 8, 3968, 128, 1985, 8033],
 ];
+
+// What a batch has that was refused.
+const NOTHING: Sent = Sent {
+    packets: 0,
+    bytes: 0,
+};
 
 fn main(rt: HostRuntime) {
     // A write that fails ends the run, and is no failure of it.
@@ -119,7 +125,7 @@ fn present_plan(rt: &impl Print, held: &[u16], wanted: &[u16]) -> io::Result<()>
     let mut room = [0u32; planning::ROOM_SIZE];
     let mut choices = [0u8; planning::CHOICES_SIZE];
     let mut batch = [0u8; planning::BATCH_SIZE];
-    let a = planner_numbers::plan(
+    let planned = planner_numbers::plan(
         4,
         held,
         wanted,
@@ -129,9 +135,9 @@ fn present_plan(rt: &impl Print, held: &[u16], wanted: &[u16]) -> io::Result<()>
         &mut batch,
     );
     print!(rt; "plan: ")?;
-    print_answer(rt, a)?;
+    let sent = print_planned(rt, planned)?;
     println!(rt;)?;
-    show_packets(rt, &batch, a.bytes)?;
+    show_packets(rt, &batch, sent.bytes)?;
     show_rooms(rt, &room, &choices)
 }
 
@@ -139,20 +145,24 @@ fn present_plan(rt: &impl Print, held: &[u16], wanted: &[u16]) -> io::Result<()>
 // these.
 fn present_gains(rt: &impl Print, gains: &[u16], start: u32) -> io::Result<()> {
     let mut pairs = [0u16; compressor::PAIRS_ROOM];
-    let c = compressor::numbers::compress(gains, &mut pairs);
-    print!(rt; "gains: status {}, pairs {}", c.status, c.pairs)?;
-    let n = 2 * c.pairs;
-    present_split(rt, start, &pairs[..n])
+    let (status, n) = match compressor::numbers::compress(gains, &mut pairs) {
+        Ok(n) => (0, n),
+        Err(why) => (why.number(), 0),
+    };
+    print!(rt; "gains: status {status}, pairs {n}")?;
+    present_split(rt, start, &pairs[..2 * n])
 }
 
 fn present_split(rt: &impl Print, start: u32, pairs: &[u16]) -> io::Result<()> {
     let mut batch = [0u8; splitter::BATCH_ROOM];
-    let s = splitter::numbers::split(3, start, pairs, &mut batch);
-    println!(rt;
-        "; split: status {}, packets {}, bytes {}",
-        s.status, s.packets, s.bytes
-    )?;
-    show_packets(rt, &batch, s.bytes)
+    let (status, sent) = match splitter::numbers::split(3, start, pairs, &mut batch) {
+        Ok(sent) => (0, sent),
+        Err(why) => (why.number(), NOTHING),
+    };
+    print!(rt; "; split: ")?;
+    print_sent(rt, status, sent)?;
+    println!(rt;)?;
+    show_packets(rt, &batch, sent.bytes)
 }
 
 // The room's numbers and the choices of four points and of one behind them.
@@ -216,9 +226,9 @@ fn try_plan(
     choices: &mut [u8],
     batch: &mut [u8],
 ) -> io::Result<()> {
-    let a = planner_numbers::plan(points, held, wanted, plan, room, choices, batch);
+    let planned = planner_numbers::plan(points, held, wanted, plan, room, choices, batch);
     print!(rt; "  ")?;
-    print_answer(rt, a)?;
+    print_planned(rt, planned)?;
     println!(rt;
         "; left {} {} {} {}",
         first(plan),
@@ -228,10 +238,20 @@ fn try_plan(
     )
 }
 
-fn print_answer(rt: &impl Print, a: Answer) -> io::Result<()> {
+// What planning answers; and the batch that it made.
+fn print_planned(rt: &impl Print, planned: Result<Sent, planning::Refusal>) -> io::Result<Sent> {
+    let (status, sent) = match planned {
+        Ok(sent) => (0, sent),
+        Err(why) => (why.number(), NOTHING),
+    };
+    print_sent(rt, status, sent)?;
+    Ok(sent)
+}
+
+fn print_sent(rt: &impl Print, status: u8, sent: Sent) -> io::Result<()> {
     print!(rt;
-        "status {}, packets {}, bytes {}",
-        a.status, a.packets, a.bytes
+        "status {status}, packets {}, bytes {}",
+        sent.packets, sent.bytes
     )
 }
 
@@ -246,31 +266,38 @@ fn first<T: Copy + Default>(list: &[T]) -> T {
 // One packet: its bytes, what reading gives, and the bytes made again.
 fn present(rt: &impl Print, bytes: &[u8]) -> io::Result<()> {
     println!(rt; "packet{}", Hex(bytes))?;
-    let r = packet::read(bytes);
-    let Reading::Command {
+    match packet::read(bytes) {
+        Ok(command) => present_command(rt, command, bytes),
+        Err(why) => print_refusal(rt, why),
+    }
+}
+
+fn present_command(rt: &impl Print, command: Command, bytes: &[u8]) -> io::Result<()>
+    requires { command.at + command.size ≤ length bytes.now }
+{
+    let Command {
         opcode,
         options,
         at,
         size,
-    } = r
-    else {
-        return print_refusal(rt, r.refusal());
-    };
+    } = command;
     println!(rt; "  opcode {opcode:02x}h, options {options:02x}h, data at {at}, size {size}")?;
-    make_again(rt, opcode, options, &bytes[at..at + size])
+    make_again(rt, opcode, options, command.data(bytes))
 }
 
 fn make_again(rt: &impl Print, opcode: u8, options: u8, data: &[u8]) -> io::Result<()> {
     let mut buffer = [0u8; 512];
-    let made = packet::make(opcode as u16, options, data, &mut buffer);
-    let bytes = Hex(&buffer[..made.size.min(512)]);
-    println!(rt; "  made again, status {}:{bytes}", made.why.number)
+    let (status, size) = match packet::make(opcode as u16, options, data, &mut buffer) {
+        Ok(size) => (0, size),
+        Err(why) => (why.number(), 0),
+    };
+    println!(rt; "  made again, status {status}:{}", Hex(&buffer[..size.min(512)]))
 }
 
 fn print_refusal(rt: &impl Print, why: Refusal) -> io::Result<()> {
-    print!(rt; "  refused {}", why.number)?;
-    if why.number == 10 {
-        print!(rt; ", at data byte {}", why.place)?;
+    print!(rt; "  refused {}", why.number())?;
+    if let Refusal::ValueWrong(place) = why {
+        print!(rt; ", at data byte {place}")?;
     }
     println!(rt;)
 }

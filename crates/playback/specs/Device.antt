@@ -1,5 +1,6 @@
 -- What a replay is lent for its packets, as the front end's definitions speak of it.
 use Rattle.std.specs.Prelude.{◌≡◌, length}
+use Rattle.wire.specs.Refusals.{status_if, fault_if}
 use Rattle.front_end.specs.declared.Outcome.{Outcome}
 use Rattle.front_end.specs.State.{State, state}
 use Rattle.front_end.specs.Step.{Out, out}
@@ -10,7 +11,7 @@ state_of d = state d.block.now d.staged.now d.live.now d.gains.now
 
 -- What handling a packet has answered and left.
 abbrev pub step_of : Outcome → Device → Out
-step_of o d = out o.why.number o.why.place o.size (state_of d) d.reply.now
+step_of o d = out (status_if o.refused) (fault_if o.refused) o.size (state_of d) d.reply.now
 
 -- The lists are the same that were lent, and as long.
 pub record StillLent (d e : Device) : Type 0 where

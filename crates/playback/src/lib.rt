@@ -2,6 +2,7 @@
 #![tactic(auto)]
 
 ghost use Rattle.std.specs.Prelude.{◌+◌, ◌≤◌, ◌<◌, ◌≡◌, length, take};
+ghost use Rattle.wire.specs.Refusals.{status_of};
 ghost use Rattle.text.specs.Text.{decimal, hex, Puts};
 ghost use Rattle.text.specs.Plain.{Decimal, Hex};
 ghost use Rattle.text.specs.Page.{PutOn};
@@ -18,6 +19,7 @@ ghost use Rattle.playback.specs.Windows.{cut_room, closing_room, closing_text, u
 use front_end::{Outcome, REPLY_ROOM};
 use session_file::{KEPT_SIZE, MOST_RECORD, Preamble};
 use text::Page;
+use wire::Refusal;
 
 // Room for any line: two numbers, 512 bytes in hex, a blank and a newline.
 pub const LINE_ROOM: usize = 1578;
@@ -50,8 +52,9 @@ pub struct Device<'a> {
 
 impl Device<'_> {
     // The state that a session begins with, where the lists are as long as they are to be.
-    pub fn reset(&mut self) -> u8
-        ensures reset { Resets (state_of self.old) (reset_out result (state_of self.new)) }
+    pub fn reset(&mut self) -> Result<(), Refusal>
+        ensures reset { Resets (state_of self.old)
+            (reset_out (status_of result) (state_of self.new)) }
         ensures same { StillLent self.old self.new }
     {
         front_end_numbers::reset(self.block, self.staged, self.live, self.gains)
@@ -168,7 +171,7 @@ fn answer(packet: &[u8], q: Progress, device: &mut Device, out: &mut [u8]) -> Pr
         out,
         q.size,
         number,
-        o.why.number as u64,
+        o.status() as u64,
         device.replied(o.size),
     );
     Progress { size, number, ..q }

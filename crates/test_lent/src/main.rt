@@ -66,8 +66,12 @@ struct Lists<'a> {
 }
 
 impl Lists<'_> {
+    // The number of what refuses it, 0 where nothing does.
     fn reset(&mut self) -> u8 {
-        front_end_numbers::reset(self.block, self.staged, self.live, self.gains)
+        match front_end_numbers::reset(self.block, self.staged, self.live, self.gains) {
+            Ok(()) => 0,
+            Err(why) => why.number(),
+        }
     }
 
     fn handle(&mut self, packet: &[u8]) -> Outcome {
@@ -187,7 +191,7 @@ fn prepare(rt: &impl Print, i: usize, lists: &mut Lists) -> io::Result<()> {
 // One packet: its bytes, the status, and the reply if there is one.
 fn send(rt: &impl Print, packet: &[u8], lists: &mut Lists) -> io::Result<()> {
     let o = lists.handle(packet);
-    print!(rt; " {} -> {}", Hex(packet), o.why.number)?;
+    print!(rt; " {} -> {}", Hex(packet), o.status())?;
     if 0 < o.size {
         print_reply(rt, lists.reply, o.size)?;
     }

@@ -13,6 +13,6 @@ print_line-size-requires c =
 
 pub returns-clause-answered : goal.returns-clause-answered
 returns-clause-answered c =
-    let put = rw c.replied.ensures at c.print_line-size.ensures.put in
-    let reads = rw c.replied.ensures at c.print_line-size.ensures.reads in
+    let put = rw (c.replied.ensures, c.status.ensures) at c.print_line-size.ensures.put in
+    let reads = rw (c.replied.ensures, c.status.ensures) at c.print_line-size.ensures.reads in
     answer-done c.handle-o.ensures.outcome put c.print_line-size.ensures.most reads.0 reads.1 reads.2 refl refl refl refl
