@@ -2,7 +2,7 @@
 // reading; then plans the uploads of the bench maps, and compresses and splits gains.
 #![tactic(auto)]
 
-ghost use Rattle.std.specs.Prelude.{◌<◌, length};
+ghost use Rattle.std.specs.Prelude.{◌+◌, ◌<◌, ◌≤◌, length};
 
 use batch::Sent;
 use packet::Command;

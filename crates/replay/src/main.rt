@@ -51,7 +51,8 @@ fn main(rt: HostRuntime) {
         gains: &mut gains,
         reply: &mut reply,
     };
-    device.reset();
+    // Every list is as long as it is to be.
+    let _ = device.reset();
     run(&mut input, &mut window, &mut kept, &mut device, &mut out);
 }
 
