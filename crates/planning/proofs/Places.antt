@@ -1,9 +1,11 @@
 -- What stores, fills and tests say of the numbers that bytes hold.
-use Prim.Native.Nat.{ℕ, zero, suc, ◌+◌, ◌*◌, ◌/◌, ◌%◌}
+use Prim.Native.Nat.{ℕ, zero, suc, ◌+◌, ◌*◌, ◌/◌, ◌%◌, ◌<◌}
 use mathlib.Core.Path.{◌≡◌, refl}
-use mathlib.Core.Bool.{Bool, true, false, not, ◌&&◌, ◌||◌}
+use mathlib.Core.Bool.{Bool, true, false, not, ◌&&◌}
 use mathlib.Core.List.{List, [], ◌∷◌}
 use native.Mathlib.Omega.{arith}
+use borrow.Author.Tests.{eqb-true, eqb-false, eq-eqb, ne_eqb}
+use lib.Dec.{eqb}
 use lib.ListN.{length, set, replicate}
 use lib.Seq.{sets}
 use Rattle.wire.specs.Numbers.{word_bytes}
@@ -37,7 +39,17 @@ zero-longs s e =
     let quarter : length s / 2 / 2 ≡ length s / 4 = omega arith in
     rw (e, pairs-zeros 256 (length s), pairs-zeros 65536 (length s / 2), quarter, length-longs s)
 
--- Not both the same.
-pub one-differs : (a b : Bool) → (not a || not b) ≡ not (a && b)
-one-differs true b = refl
-one-differs false b = refl
+-- A point's two numbers as one.
+pub one-differs : (a b c d : ℕ) → a < 65536 → c < 65536 → not (eqb (a + 65536 * b) (c + 65536 * d)) ≡ not (eqb a c && eqb b d)
+one-differs a b c d h g = go (eqb a c) (eqb b d) refl refl
+  where
+    go : (x y : Bool) → eqb a c ≡ x → eqb b d ≡ y → not (eqb (a + 65536 * b) (c + 65536 * d)) ≡ not (eqb a c && eqb b d)
+    go true true e f =
+        let same : a + 65536 * b ≡ c + 65536 * d = omega (arith, eqb-true a c e, eqb-true b d f) in
+        rw (e, f, eq-eqb (a + 65536 * b) (c + 65536 * d) same)
+    go true false e f =
+        let other : b ≡ d → ⊥ = eqb-false b d f in
+        rw (e, f, ne_eqb (a + 65536 * b) (c + 65536 * d) (λ z. other (omega arith)))
+    go false y e f =
+        let other : a ≡ c → ⊥ = eqb-false a c e in
+        rw (e, ne_eqb (a + 65536 * b) (c + 65536 * d) (λ z. other (omega arith)))

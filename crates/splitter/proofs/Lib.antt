@@ -1,4 +1,5 @@
 pub mod Cutting
 pub mod Determined
+pub mod Faults
 pub mod Outcome
 pub mod Writing

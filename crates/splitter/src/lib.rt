@@ -5,14 +5,16 @@
 pub mod bytes;
 pub mod numbers;
 
-ghost use Rattle.std.specs.Prelude.{◌≡◌, ◌*◌, ◌%◌, ◌≤◌, not, length, eqb};
+ghost use Rattle.std.specs.Prelude.{◌≡◌, ◌*◌, ◌%◌, ◌≤◌, not, length, eqb, ltb};
 ghost use Rattle.wire.specs.First.{first};
+ghost use Rattle.gain_words.specs.Pairs.{«pair_fault»};
 ghost use Rattle.splitter.specs.Plain.{Splittable};
 ghost use Rattle.splitter.specs.Splitting.{batch_room, «values_wrong», split_refusals, split_out};
 ghost use Rattle.splitter.specs.Internal.{split_done};
 ghost use Rattle.splitter.specs.Refusals.{number_of, status_of};
 
 use batch::{Batch, Sent};
+use gain_words::{LONGEST_RUN, MOST_GAIN};
 use tables::Table;
 use wire::Element;
 
@@ -46,13 +48,27 @@ impl Refusal {
     }
 }
 
-// Whether there are no words, the colour is over 3, or a word is at fault (the first of them stands
-// before the end).
+// Whether a run or a gain is out of its range. Without an early return a compiler takes many pairs at
+// a time.
+fn some_fault<T: Element>(pairs: &[T]) -> bool
+    requires { length (T.numbers pairs.now) % 2 ≡ 0 }
+    ensures { result ≡ ltb («pair_fault» (T.numbers pairs.now)) (length (T.numbers pairs.now)) }
+{
+    let mut wrong = false;
+    for k in 0..T::count(pairs) / 2 {
+        let run = T::number(pairs, 2 * k);
+        let gain = T::number(pairs, 2 * k + 1);
+        wrong = wrong | !((1 <= run) & (run <= LONGEST_RUN)) | (MOST_GAIN < gain);
+    }
+    wrong
+}
+
+// Whether there are no words, the colour is over 3, or a word is at fault.
 fn values_wrong<T: Element>(colour: u32, pairs: &[T]) -> bool
+    requires { length (T.numbers pairs.now) % 2 ≡ 0 }
     ensures { result ≡ «values_wrong» colour (T.numbers pairs.now) }
 {
-    let words = T::count(pairs);
-    (words == 0) | (3 < colour) | (gain_words::pair_fault(pairs) < words)
+    (T::count(pairs) == 0) | (3 < colour) | some_fault(pairs)
 }
 
 // The first refusal that applies.

@@ -1,17 +1,13 @@
--- The law on two maps at a point.
+-- The law on two maps at a point, and on two points as two numbers.
+use Rattle.std.proofs.Common.{◌+◌, ◌*◌}
 use Rattle.upload.proofs.Differs.{differs_at}
 use Rattle.planning.proofs.Places.{one-differs}
 use Rattle.planning.proofs.Maps.differs_at.Goals as goal
 
 pub returns : goal.returns
 returns g c =
-    let held = g.T.Element.numbers c.args.self.now.held.now in
-    let wanted = g.T.Element.numbers c.args.self.now.wanted.now in
-    rw (
-      differs_at held wanted c.args.i c.requires.0 c.requires.1,
-      ← c.number.ensures,
-      ← c.number-2.ensures,
-      ← c.number-3.ensures,
-      ← c.number-4.ensures,
-    )
-    (one-differs _ _)
+    let maps = c.args.self.now in
+    let held = g.T.Element.numbers maps.held.now in
+    let wanted = g.T.Element.numbers maps.wanted.now in
+    rw (differs_at held wanted c.args.i c.requires.0 c.requires.1, c.point.ensures, c.point-2.ensures)
+    (one-differs _ _ _ _ (maps.held_small (2 * c.args.i)) (maps.wanted_small (2 * c.args.i)))
