@@ -75,12 +75,15 @@ pub fn checksum(s: &[u8], n: usize) -> usize
     sum
 }
 
-// Copies n bytes of src, from a place on, over those of dst from a place on.
+// Copies n bytes of src, from a place on, over those of dst from a place on. One by one, since
+// copy_from_slice was measured slower where they are few.
 pub fn copy(dst: &mut [u8], at: usize, src: &[u8], from: usize, n: usize)
     requires { (at + n ≤ length dst.old) × (from + n ≤ length src.now) }
     ensures { dst.new ≡ paste dst.old at (drop from src.now) n }
 {
-    dst[at..at + n].copy_from_slice(&src[from..from + n]);
+    for k in 0..n {
+        dst[at + k] = src[from + k];
+    }
 }
 
 // Stores a byte.
