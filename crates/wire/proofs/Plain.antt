@@ -8,8 +8,27 @@ use native.Mathlib.Omega.{arith}
 use native.Mathlib.Numerals.{add-one}
 use Rattle.wire.specs.First.{first}
 use Rattle.wire.specs.Buffers.{over}
+use Rattle.wire.specs.Refusals.{number_of, place_of}
+use Rattle.wire.specs.declared.refusal.Refusal.{Refusal}
+use Rattle.wire.specs.declared.refusal.Refusal.TheVariants.{LentWrong, TooShort, TooLong, LengthDiffers}
+use Rattle.wire.specs.declared.refusal.Refusal.TheVariants.{ChecksumDiffers, NotForUs, Unknown, LacksLength}
+use Rattle.wire.specs.declared.refusal.Refusal.TheVariants.{SizeWrong, ValueWrong, NamedOnly, RunsPast}
 use Rattle.wire.specs.Plain.{Least, Pinned}
 use Rattle.wire.proofs.Sums.{checksum-agrees}
+
+placeless : (why : Refusal) → (number_of why ≡ 10 → ⊥) → place_of why ≡ 0
+placeless LentWrong other = refl
+placeless TooShort other = refl
+placeless TooLong other = refl
+placeless LengthDiffers other = refl
+placeless ChecksumDiffers other = refl
+placeless NotForUs other = refl
+placeless Unknown other = refl
+placeless LacksLength other = refl
+placeless SizeWrong other = refl
+placeless (ValueWrong at) other = absurd (other refl)
+placeless NamedOnly other = refl
+placeless RunsPast other = refl
 
 pub pinned : Pinned
 unfolding over
@@ -35,6 +54,12 @@ pinned =
       weights-1 = λ x r. rw add-one;
       sum = λ s. (checksum-agrees s).weighs;
       overwritten = λ s buffer. refl;
+      numbers-1 = (refl, refl, refl);
+      numbers-4 = (refl, refl, refl);
+      numbers-7 = (refl, refl, refl);
+      numbers-10 = λ at. (refl, refl, refl);
+      named-place = λ at. refl;
+      no-place = placeless;
     }
 
 -- Two numbers, each the least that applies, are equal: the lesser would have been passed by the

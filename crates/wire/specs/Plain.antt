@@ -6,6 +6,11 @@ use Rattle.wire.specs.Numbers.{byte_at, word_at, long_at, word_bytes}
 use Rattle.wire.specs.Tables.{words, bytes, longs, long_bytes}
 use Rattle.wire.specs.Checksum.{weighted, checksum}
 use Rattle.wire.specs.Buffers.{over}
+use Rattle.wire.specs.Refusals.{number_of, place_of}
+use Rattle.wire.specs.declared.refusal.Refusal.{Refusal}
+use Rattle.wire.specs.declared.refusal.Refusal.TheVariants.{LentWrong, TooShort, TooLong, LengthDiffers}
+use Rattle.wire.specs.declared.refusal.Refusal.TheVariants.{ChecksumDiffers, NotForUs, Unknown, LacksLength}
+use Rattle.wire.specs.declared.refusal.Refusal.TheVariants.{SizeWrong, ValueWrong, NamedOnly, RunsPast}
 
 -- Rule 4.1: of refusals that apply or not, each by a condition of its own, the number given is the
 -- least that applies; 0 is given where none does.
@@ -44,3 +49,10 @@ pub record Pinned : Type 0 where
   pub weights-1 : (x : ℕ) (r : List ℕ) → weighted (x ∷ r) ≡ (length r + 1) * x + weighted r
   pub sum : (s : List ℕ) → checksum s ≡ weighted s % 256
   pub overwritten : (s buffer : List ℕ) → over s buffer ≡ s ++ drop (length s) buffer
+  -- Rule 4.1: the refusals by their numbers. Rule 4.6: the place that 10 alone names.
+  pub numbers-1 : (number_of LentWrong ≡ 1) × (number_of TooShort ≡ 2) × (number_of TooLong ≡ 3)
+  pub numbers-4 : (number_of LengthDiffers ≡ 4) × (number_of ChecksumDiffers ≡ 5) × (number_of NotForUs ≡ 6)
+  pub numbers-7 : (number_of Unknown ≡ 7) × (number_of LacksLength ≡ 8) × (number_of SizeWrong ≡ 9)
+  pub numbers-10 : (at : ℕ) → (number_of (ValueWrong at) ≡ 10) × (number_of NamedOnly ≡ 11) × (number_of RunsPast ≡ 12)
+  pub named-place : (at : ℕ) → place_of (ValueWrong at) ≡ at
+  pub no-place : (why : Refusal) → (number_of why ≡ 10 → ⊥) → place_of why ≡ 0

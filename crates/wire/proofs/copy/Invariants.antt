@@ -5,4 +5,3 @@ use Rattle.wire.proofs.copy.Given as goal
 
 abbrev pub invariant-loop-k : goal.invariant-loop-k
 invariant-loop-k l = Copying l.initial.dst l.at (drop l.from l.src) l.n l.dst l.k
-
