@@ -182,6 +182,7 @@ fn show_rooms(rt: &impl Print, room: &[u32], choices: &[u8]) -> io::Result<()>
 // length field say.
 fn show_packets(rt: &impl Print, batch: &[u8], n: usize) -> io::Result<()> {
     let mut at = 0;
+    // No `for`: a step is a packet.
     while at < n.min(batch.len()) {
         let rest = &batch[at..];
         let size = packet::announced(rest);

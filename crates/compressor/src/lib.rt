@@ -106,6 +106,7 @@ fn write<T: Table>(gains: &[T], pairs: &mut [T]) -> usize
     let n = T::count(gains);
     let mut i = 0;
     let mut k = 0;
+    // No `for`: a step is a run.
     while i < n {
         let gain = T::number(gains, i);
         let run = run_at(gains, i, gain);

@@ -1,4 +1,5 @@
 // The front end on tables lent as bytes, low byte first, where they lie: what the C entries stand on.
+// Its entries are those of front_end_tables, under the promises that are made byte by byte.
 #![tactic(auto)]
 
 ghost use Rattle.wire.specs.Refusals.{status_of, status_if, fault_if};

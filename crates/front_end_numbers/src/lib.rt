@@ -1,4 +1,5 @@
-// The front end on tables of 16-bit numbers, for Rattle callers.
+// The front end on tables of 16-bit numbers, for Rattle callers. Its entries are those of
+// front_end_tables, under the promises that are made of numbers.
 #![tactic(auto)]
 
 ghost use Rattle.wire.specs.Refusals.{status_of, status_if, fault_if};

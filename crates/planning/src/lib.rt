@@ -139,6 +139,7 @@ fn follow<T: Table>(wanted: &[T], plan: &mut [T], choices: &[u8], batch: &mut Ba
 {
     let mut packets = 0;
     let mut i = 0;
+    // No `for`: a step is a packet's points, or one that is passed.
     while i < choices.len() {
         let count = choices[i] as usize;
         if 0 < count {

@@ -108,6 +108,7 @@ pub fn replay(
     if !rooms_right(kept, device, from.have) {
         return p;
     }
+    // No `for`: a step is as many bytes as a turn took.
     while p.at < window.len() && has_room(p.size, p.number, out) {
         p = turn(window, p, kept, device, out);
     }

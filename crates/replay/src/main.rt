@@ -199,6 +199,7 @@ fn play(
 {
     let mut p = from;
     let mut at = 0;
+    // No `for`: a step is as many bytes as were replayed.
     while at < window.len() {
         p = play_some(&window[at..], p, kept, device, out);
         if p.at == 0 {

@@ -151,7 +151,8 @@ fn uart_port_in_range(block: &[u8], at: usize) -> bool
         & (block[at + 9] <= MOST_FLAG)
 }
 
-// The place of what a fixed command stores, from its data.
+// The place of what a fixed command stores, from its data. An opcode stays a number here and below:
+// `place_of` of specs/Layout is made for any number, and C passes any.
 #[tactic(auto, unfolding(crate::specs::Layout::place_of))]
 pub fn place_of(opcode: usize, data: &[u8]) -> usize
     ensures { (result ≡ «place_of» opcode «data».now) × (result ≤ 4096) }
