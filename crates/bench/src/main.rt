@@ -292,7 +292,10 @@ fn make_again(rt: &impl Print, opcode: u8, options: u8, data: &[u8]) -> io::Resu
         Ok(size) => (0, size),
         Err(why) => (why.number(), 0),
     };
-    println!(rt; "  made again, status {status}:{}", Hex(&buffer[..size.min(512)]))
+    println!(rt;
+        "  made again, status {status}:{}",
+        Hex(&buffer[..size.min(512)])
+    )
 }
 
 fn print_refusal(rt: &impl Print, why: Refusal) -> io::Result<()> {

@@ -64,6 +64,7 @@ fn runs_past(command: Command, data: &[u8], block: &[u8]) -> bool
         «data».now block.now }
 {
     let reads = command.header().reads();
+    // By number, as the rules and guides have it: variants would only name the numbers once more.
     match command.opcode {
         0x34 => {
             let named = points_named(reads, data);
@@ -269,6 +270,7 @@ pub fn store(block: &mut [u8], opcode: usize, options: usize, data: &[u8])
         × (first (judgement opcode options «data».now) ≡ 0) }
     ensures { block.new ≡ block_after opcode «data».now block.old }
 {
+    // By number, as the rules and guides have it: variants would only name the numbers once more.
     match opcode {
         0x2B => {}
         0x34 => {}
@@ -325,6 +327,7 @@ pub fn fetch(out: &mut [u8], opcode: usize, options: usize, data: &[u8], block: 
     ensures { Overwrites result (block_back opcode «data».now block.now)
         out.old out.new }
 {
+    // By number, as the rules and guides have it: variants would only name the numbers once more.
     match opcode {
         0x35 => fetch_shape(out, block),
         0x38 => fetch_part(

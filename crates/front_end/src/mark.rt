@@ -27,6 +27,7 @@ pub fn fresh_rows(opcode: usize, data: &[u8], block: &[u8]) -> Option<Fresh>
     requires { MarkGranted opcode «data».now block.now }
     ensures { RowsFresh opcode «data».now block.now result }
 {
+    // By number, as the rules and guides have it: variants would only name the numbers once more.
     match opcode {
         0x34 => Some(touched(data, block)),
         0x35 => Some(Fresh {

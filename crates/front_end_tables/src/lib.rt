@@ -168,6 +168,7 @@ impl<'a, T: Table + Map> State<'a, T> {
         requires room { data_room ≤ length out.old }
         ensures { Overwrites result (data_back command.opcode «data».now (held self.now)) out.old out.new }
     {
+        // By number, as the rules and guides have it: variants would only name the numbers once more.
         match command.opcode {
             0x34 => fetch_points(out, data, self.staged),
             0x2B => fetch_gains(out, data, self.gains),
@@ -260,6 +261,7 @@ fn apply<T: Element>(opcode: usize, data: &[u8], staged: &[T], live: &mut [T])
     requires { length live.old ≡ length staged.now }
     ensures { T.numbers live.new ≡ live_after opcode «data».now (T.numbers staged.now) (T.numbers live.old) }
 {
+    // By number, as the rules and guides have it: variants would only name the numbers once more.
     if (opcode == 0x36) & (wire::byte(data, 0) == 1) {
         live.copy_from_slice(staged);
     }
@@ -270,6 +272,7 @@ fn store_points<T: Table>(opcode: usize, data: &[u8], staged: &mut [T])
     requires { (opcode ≡ 0x34 → PointsWrite «data».now) × (length (T.numbers staged.old) ≡ map_size) }
     ensures { T.numbers staged.new ≡ staged_after opcode «data».now (T.numbers staged.old) }
 {
+    // By number, as the rules and guides have it: variants would only name the numbers once more.
     if opcode == 0x34 {
         let named = front_end::points_named(false, data);
         T::words_in(staged, 2 * named.start, wire::behind(data, POINTS_HEAD));

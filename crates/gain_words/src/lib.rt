@@ -23,7 +23,8 @@ fn run_wrong(run: u16) -> bool
     !((1 <= run) & (run <= LONGEST_RUN))
 }
 
-// The index of the first gain that is above the highest, the number of gains for none.
+// The index of the first gain that is above the highest, the number of gains for none: the place of
+// a fault is reckoned from it either way, so that no Option is plainer.
 pub fn first_large<T: Element>(gains: &[T]) -> usize
     ensures { result ≡ «first_large» (T.numbers gains.now) }
 {
@@ -37,7 +38,7 @@ pub fn first_large<T: Element>(gains: &[T]) -> usize
 }
 
 // The index of the first word at fault, a pair's run before its gain; the number of words in pairs
-// for none.
+// for none, as above.
 pub fn pair_fault<T: Element>(pairs: &[T]) -> usize
     ensures { result ≡ «pair_fault» (T.numbers pairs.now) }
 {

@@ -94,6 +94,7 @@ static UART: [Field; 11] = [
 pub(crate) fn sets(opcode: usize) -> &'static [Field]
     ensures { (result.now ≡ (command_of opcode).sets) × (span result.now ≤ most_span) }
 {
+    // By number, as the rules and guides have it: variants would only name the numbers once more.
     match opcode {
         0x11 => &DISPLAY,
         0x12 | 0x1D | 0x36 | 0x39 | 0x6C => &FLAGS,
@@ -118,6 +119,7 @@ pub(crate) fn sets(opcode: usize) -> &'static [Field]
 pub(crate) fn asks(opcode: usize) -> &'static [Field]
     ensures { (result.now ≡ (command_of opcode).asks) × (span result.now ≤ most_span) }
 {
+    // By number, as the rules and guides have it: variants would only name the numbers once more.
     match opcode {
         0x2B => &GAINS_ASKED,
         0x34 => &POINTS_ASKED,

@@ -85,6 +85,7 @@ fn size_wrong(row: Row, opcode: usize, options: Header, data: &[u8]) -> bool
 fn variable_size_wrong(opcode: usize, data: &[u8]) -> bool
     ensures { result ≡ «variable_size_wrong» opcode «data».now }
 {
+    // By number, as the rules and guides have it: variants would only name the numbers once more.
     match opcode {
         0x2B => gains_size_wrong(data),
         0x34 => points_size_wrong(data),
@@ -175,6 +176,7 @@ fn value_fault(row: Row, opcode: usize, options: Header, data: &[u8]) -> usize
 fn variable_fault(opcode: usize, data: &[u8]) -> usize
     ensures { result ≡ «variable_fault» opcode «data».now }
 {
+    // By number, as the rules and guides have it: variants would only name the numbers once more.
     match opcode {
         0x2B => gains_fault(data),
         0x34 => data.len(),
@@ -246,5 +248,6 @@ fn smooth_fault(data: &[u8]) -> usize
 fn named_only(opcode: usize, options: Header, data: &[u8]) -> bool
     ensures { result ≡ «named_only» opcode options.bits «data».now }
 {
+    // By number, as the rules and guides have it: variants would only name the numbers once more.
     !options.reads() & (opcode == 0x39) & (wire::byte(data, 0) == 1)
 }

@@ -1,5 +1,6 @@
 // Upload planning on lists that are lent as their bytes, low byte first. It works where the bytes
-// lie, and its promise speaks of the numbers that they hold.
+// lie, and its promise speaks of the numbers that they hold. It is planning's, which numbers share;
+// these two keep the promise made of bytes.
 #![tactic(auto)]
 
 ghost use Rattle.std.specs.Prelude.{◌≡◌};

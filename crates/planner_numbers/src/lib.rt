@@ -1,5 +1,5 @@
 // Upload planning on lists of numbers: maps and plan of 16 bits, working room of 32 bits, choices
-// of bytes.
+// of bytes. It is planning's, which bytes share; these two keep the promise made of numbers.
 #![tactic(auto)]
 
 ghost use Rattle.std.specs.Prelude.{◌≡◌, length};

@@ -158,6 +158,7 @@ pub fn place_of(opcode: usize, data: &[u8]) -> usize
     ensures { (result ≡ «place_of» opcode «data».now) × (result ≤ 4096) }
 {
     let port = wire::byte(data, 0);
+    // By number, as the rules and guides have it: variants would only name the numbers once more.
     match opcode {
         0x12 => LATENCY,
         0x13 => LOOK,
@@ -181,6 +182,7 @@ pub fn place_of(opcode: usize, data: &[u8]) -> usize
 pub fn size_of(opcode: usize) -> usize
     ensures { KeptSize opcode result }
 {
+    // By number, as the rules and guides have it: variants would only name the numbers once more.
     match opcode {
         0x13 => LOOK_SIZE,
         0x2B => 0,

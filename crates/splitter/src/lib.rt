@@ -104,6 +104,8 @@ fn cut<T: Table>(colour: usize, start: usize, pairs: &[T], batch: &mut Batch) ->
     let mut at = start;
     let mut packets = 0;
     let mut i = 0;
+    // No `for` over chunks: of elements that are no whole number, which only `judge` rules out, they
+    // would make one packet more.
     while i < words {
         let n = PACKET_WORDS.min(words - i);
         let part = wire::part(pairs, i, n);

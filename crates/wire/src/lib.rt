@@ -32,7 +32,7 @@ pub fn byte(s: &[u8], i: usize) -> usize
     if i < s.len() { s[i] as usize } else { 0 }
 }
 
-// The 16-bit number at i, low byte first.
+// The 16-bit number at i, low byte first. By sum, since a byte past the end counts as 0.
 pub fn word(s: &[u8], i: usize) -> usize
     ensures { (result ≡ word_at s.now i) × (result < 65536) }
 {
@@ -43,7 +43,7 @@ pub fn word(s: &[u8], i: usize) -> usize
     }
 }
 
-// The 32-bit number at i, low byte first.
+// The 32-bit number at i, low byte first. By sum, as above.
 pub fn long(s: &[u8], i: usize) -> usize
     ensures { (result ≡ long_at s.now i) × (result < 4294967296) }
 {
