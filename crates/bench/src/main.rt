@@ -30,7 +30,7 @@ const LENGTHS: [[usize; 7]; 14] = [
     [4, 8, 8, 3968, 128, 1985, 8033],
 ];
 
-// What a batch has that was refused.
+// What a batch has that was refused. Numbers stand beside values here and below to be printed.
 const NOTHING: Sent = Sent {
     packets: 0,
     bytes: 0,

@@ -165,7 +165,7 @@ fn gains_at(colour: usize, start: usize, count: usize) -> Gains
 }
 
 // Writes the reply that carries a status, and of refusal 10 its place, if the packet asks for one.
-// Answers its length, 0 for none.
+// Answers its length, 0 for none, as rule 3.4 tells it to the caller.
 pub fn acknowledge(packet: &[u8], refused: Option<Refusal>, reply: &mut [u8]) -> usize
     requires { (fault_if refused < 65536) × (reply_room ≤ length reply.old) }
     ensures { Overwrites result (status_reply (status_if refused) (fault_if refused) packet.now)

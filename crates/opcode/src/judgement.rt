@@ -158,7 +158,8 @@ fn smooth_size_wrong(data: &[u8]) -> bool
     data.len() != SMOOTH_HEAD + 4 * (wire::byte(data, 0) * wire::byte(data, 1))
 }
 
-// 10: the place of the first value at fault, the data's length or more for none.
+// 10: the place of the first value at fault, the data's length or more for none. Places of a head
+// and of what stands behind it are added, so that no Option is plainer.
 #[tactic(auto, unfolding(crate::specs::Judgement::value_fault))]
 fn value_fault(row: Row, opcode: usize, options: Header, data: &[u8]) -> usize
     requires { told row ≡ row_of opcode }

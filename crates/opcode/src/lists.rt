@@ -9,7 +9,7 @@ ghost use Rattle.opcode.specs.Internal.{stretch_steps, RisenTo};
 const STRETCH: usize = 5;
 
 // The index of the first of count numbers from a place on that is not above the one before it,
-// count for none.
+// count for none: a place is reckoned from it either way.
 pub fn rise(s: &[u8], at: usize, count: usize) -> usize
     requires { (at ≤ 65536) × (count ≤ 65536) }
     ensures { (result ≡ «rise» (words_at s.now at count)) × (result ≤ count) }

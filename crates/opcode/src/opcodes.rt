@@ -5,7 +5,8 @@ ghost use Rattle.opcode.specs.Internal.{Sized};
 
 use super::{Kind, Row};
 
-// Row by row from opcode 00h on, a hexadecimal digit for each of kind and sizes in their order.
+// Row by row from opcode 00h on, a hexadecimal digit for each of kind and sizes in their order. In
+// two bytes a row, since memory is fixed; `row_at` gives the kind by its name.
 static ROWS: [u16; 256] = [
     0x0000, // 00h
     0x0000, 0x0000, 0x0000, 0x0000, 0x0000, 0x0000, 0x0000, 0x0000, 0x0000, 0x0000, 0x0000, 0x0000,

@@ -55,6 +55,7 @@ impl Room for u8 {
     ghost laws = { byte_laws };
 
     fn keep(room: &mut [u8], i: usize, v: u32) {
+        // By halves, since the definitions have a room of bytes as words, and words as numbers.
         if i < room.len() / 4 {
             wire::put_word(room, 4 * i, (v % 65536) as usize);
             wire::put_word(room, 4 * i + 2, (v / 65536) as usize);

@@ -9,7 +9,8 @@ ghost use Rattle.reply.specs.Reading.{ReplyRead, «checksum_wrong»};
 
 use wire::LONGEST;
 
-// What a reply says: its status, and the place and the size of its data.
+// What a reply says: its status, and the place and the size of its data. The status stays a number:
+// it is what the reply holds, and what a host prints (rule 3.5).
 #[derive(Clone, Copy, Debug, PartialEq, Eq)]
 pub struct Reply {
     pub status: u8,
