@@ -3,18 +3,24 @@
 -- determines the outcome; and what follows from it for replies, ranges, the live side, bytes
 -- without a meaning and planning.
 use Rattle.std.specs.Prelude.{ℕ, ◌+◌, ◌≤◌, ◌≡◌, ◌↔◌, true, List, length, take, drop, get_or, set, eqb}
+use Rattle.std.specs.Prelude.{Result, Ok, Err, IfOk}
+use Rattle.std.specs.Option.{unwrap_or}
+use Rattle.wire.specs.declared.refusal.Refusal.{Refusal}
+use Rattle.wire.specs.Refusals.{number_of}
 use Rattle.wire.specs.Numbers.{word_at}
 use Rattle.opcode.specs.Options.{has_checksum, is_read}
 use Rattle.packet.specs.Frame.{header_of}
 use Rattle.packet.specs.Points.{accepted_at, map_after}
 use Rattle.packet.specs.Sound.{Taken}
 use Rattle.reply.specs.Reading.{reply_reading}
+use Rattle.row_mark.specs.Bits.{first_set}
 use Rattle.row_mark.specs.Right.{RightFor, RowsCounted}
 use Rattle.settings.specs.Allowed.{SettingsAllowed}
 use Rattle.front_end.specs.State.{State, state, ResetOut, reset}
 use Rattle.front_end.specs.Writes.{Writes, Sets36, Applies}
 use Rattle.front_end.specs.Rows.{mark_of, columns_of, rows_of, MarkRight, SameButMark, SameAnswer, RowsPlain}
-use Rattle.front_end.specs.Mark.{rows_out, rows_told}
+use Rattle.front_end.specs.declared.mark.RowCount.{RowCount}
+use Rattle.front_end.specs.Mark.{mark_bits, RowsOut, rows_out, rows_told}
 use Rattle.front_end.specs.Plain.{StateLent, LentRight, staged_points, WithinTable, Asks, StepPlain, ResetPlain}
 use Rattle.front_end.specs.Step.{reply_data, Out, step}
 
@@ -109,3 +115,13 @@ pub record RowsPromised (block : List ℕ) (status count lowest : ℕ) : Type 0 
   -- Of a right mark they are those of the rows that moved.
   pub moved : status ≡ 0 → (staged live : List ℕ) → RightFor (columns_of block) (rows_of block) staged live (mark_of block)
       → RowsCounted (columns_of block) (rows_of block) staged live count lowest
+
+-- Rule 11.4: the same of the code's answer, with 32 for no lowest row; there is none exactly where
+-- no row is marked.
+abbrev pub counted : Result RowCount Refusal → RowsOut
+counted (Ok rows) = rows_out 0 rows.count (unwrap_or rows.lowest 32)
+counted (Err why) = rows_out (number_of why) 0 0
+
+pub record RowsTold (block : List ℕ) (r : Result RowCount Refusal) : Type 0 where
+  pub promised : RowsPromised block (counted r).status (counted r).count (counted r).lowest
+  pub lowest : IfOk r (λ (rows : RowCount). rows.lowest ≡ first_set (mark_bits block))

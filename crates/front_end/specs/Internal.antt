@@ -1,10 +1,7 @@
 -- What only functions inside the library need, and no rule: what a command names of a table, and what is known of a command once it has been accepted, its data judged right,
 -- its start and count fitting, and the block in range.
 use Rattle.std.specs.Prelude.{ℕ, ◌+◌, ◌-◌, ◌*◌, ◌^◌, ◌≤◌, ◌<◌, ◌≡◌, Bool, true, false, cond, List, length, eqb}
-use Rattle.std.specs.Prelude.{Option, Some, None, is_some, IfSome, Result, Ok, Err}
-use Rattle.std.specs.Option.{unwrap_or}
-use Rattle.wire.specs.declared.refusal.Refusal.{Refusal}
-use Rattle.wire.specs.Refusals.{number_of}
+use Rattle.std.specs.Prelude.{Option, Some, None, is_some, IfSome}
 use Rattle.wire.specs.First.{first}
 use Rattle.wire.specs.Numbers.{byte_at, word_at}
 use Rattle.opcode.specs.Options.{is_read}
@@ -18,9 +15,7 @@ use Rattle.settings.specs.Reset.{map_size, gains_size}
 use Rattle.front_end.specs.declared.Points.{Points}
 use Rattle.front_end.specs.declared.Gains.{Gains}
 use Rattle.front_end.specs.declared.mark.Fresh.{Fresh}
-use Rattle.front_end.specs.declared.mark.RowCount.{RowCount}
-use Rattle.front_end.specs.Mark.{mark_at, mark_bits, first_touched, last_touched, mark_after, marks, RowsOut, rows_out}
-use Rattle.front_end.specs.Demands.{RowsPromised}
+use Rattle.front_end.specs.Mark.{mark_at, mark_bits, first_touched, last_touched, mark_after, marks}
 use Rattle.front_end.specs.Commands.{points, point_count, gains_colour, gains_start, word_count, gains_count, gains_place, runs_past, third, gains_sent}
 
 -- What a 34h command names, of a read's data or a write's; no sum of it can wrap.
@@ -108,14 +103,6 @@ pub record RowsFresh (op : ℕ) (d block : List ℕ) (r : Option Fresh) : Type 0
   pub outcome : r ≡ rows_worked_out op d block
   pub changes : is_some r ≡ marks op d
   pub rows : IfSome r (FreshRows op d block)
-
--- Rule 11.4: what the code tells of a mark, 32 for no lowest row, as its promise has it.
-abbrev pub rows_of : Result RowCount Refusal → RowsOut
-rows_of (Ok r) = rows_out 0 r.count (unwrap_or r.lowest 32)
-rows_of (Err why) = rows_out (number_of why) 0 0
-
-abbrev pub RowsTold : List ℕ → Result RowCount Refusal → Type 0
-RowsTold block r = RowsPromised block (rows_of r).status (rows_of r).count (rows_of r).lowest
 
 -- An accepted read or write on tables of the right length, of so many elements a number: one where numbers are lent, two where bytes are.
 pub record ReadGranted (wide op o : ℕ) (d block staged gains : List ℕ) : Type 0 where

@@ -264,7 +264,7 @@ pub fn refuse(why: Refusal, packet: &[u8], reply: &mut [u8]) -> Outcome
 
 // What an accepted write's command stores in the block; 2Bh and 34h store in tables alone. The row
 // mark is put behind it (`mark`). What any other stores ends its data, behind the pin or port.
-// Sizes come by `size_of`, which the places stand with.
+// `settings` has sizes as it has places.
 pub fn store(block: &mut [u8], opcode: usize, options: usize, data: &[u8])
     requires { (length block.old ≡ block_size) × (is_read options ≡ 0)
         × (first (judgement opcode options «data».now) ≡ 0) }

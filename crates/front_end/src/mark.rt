@@ -5,7 +5,8 @@ ghost use Rattle.std.proofs.Math.Seq.{paste};
 ghost use Rattle.wire.specs.Tables.{long_bytes};
 ghost use Rattle.settings.specs.Layout.{block_size, mark_place, mark_size};
 ghost use Rattle.front_end.specs.Mark.{mark_at};
-ghost use Rattle.front_end.specs.Internal.{MarkGranted, RowsNamed, RowsFresh, RowsTold};
+ghost use Rattle.front_end.specs.Internal.{MarkGranted, RowsNamed, RowsFresh};
+ghost use Rattle.front_end.specs.Demands.{RowsTold};
 
 use settings::layout::*;
 use wire::Refusal;

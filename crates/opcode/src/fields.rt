@@ -63,7 +63,7 @@ static CONTROL: [Field; 3] = [
 // 38h: columns, rows.
 static SMOOTH: [Field; 2] = [SMOOTH_COUNT, SMOOTH_COUNT];
 
-// 60h: pin, direction, level, drain. 61h starts with pin and level.
+// 60h: pin, direction, level, drain. 61h has pin and level, its first two.
 static PIN: [Field; 4] = [field!(1, 0, limits::MOST_PIN), FLAG, FLAG, FLAG];
 
 // 65h: port, frequency, duty, on.

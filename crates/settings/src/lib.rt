@@ -28,6 +28,7 @@ pub fn in_range(block: &[u8]) -> bool
     requires { length block.now ≡ block_size }
     ensures { InRange block.now result }
 {
+    // The block is so long: as an array, none of its places needs a test.
     let block = block.first_chunk::<BLOCK_SIZE>().unwrap();
     picture_in_range(block)
         & shape_in_range(block, STAGED_SHAPE)
@@ -151,8 +152,7 @@ fn uart_port_in_range(block: &[u8], at: usize) -> bool
         & (block[at + 9] <= MOST_FLAG)
 }
 
-// The place of what a fixed command stores, from its data. An opcode stays a number here and below:
-// `place_of` of specs/Layout is made for any number, and C passes any.
+// The place of what a fixed command stores, from its data.
 #[tactic(auto, unfolding(crate::specs::Layout::place_of))]
 pub fn place_of(opcode: usize, data: &[u8]) -> usize
     ensures { (result ≡ «place_of» opcode «data».now) × (result ≤ 4096) }
