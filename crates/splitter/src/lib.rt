@@ -48,19 +48,38 @@ impl Refusal {
     }
 }
 
-// Whether a run or a gain is out of its range. Without an early return a compiler takes many pairs at
-// a time.
+// Whether a run or a gain of a part is out of its range. Without an early return a compiler takes
+// many pairs at a time.
+fn fault_in<T: Element>(part: &[T]) -> bool
+    requires { length (T.numbers part.now) % 2 ≡ 0 }
+    ensures { result ≡ ltb («pair_fault» (T.numbers part.now)) (length (T.numbers part.now)) }
+{
+    let mut wrong = false;
+    for k in 0..T::count(part) / 2 {
+        let run = T::number(part, 2 * k);
+        let gain = T::number(part, 2 * k + 1);
+        wrong = wrong | !((1 <= run) & (run <= LONGEST_RUN)) | (MOST_GAIN < gain);
+    }
+    wrong
+}
+
+// The same of all pairs. A list may be of any length, so it is read no further than the part in
+// which the first fault lies.
 fn some_fault<T: Element>(pairs: &[T]) -> bool
     requires { length (T.numbers pairs.now) % 2 ≡ 0 }
     ensures { result ≡ ltb («pair_fault» (T.numbers pairs.now)) (length (T.numbers pairs.now)) }
 {
-    let mut wrong = false;
-    for k in 0..T::count(pairs) / 2 {
-        let run = T::number(pairs, 2 * k);
-        let gain = T::number(pairs, 2 * k + 1);
-        wrong = wrong | !((1 <= run) & (run <= LONGEST_RUN)) | (MOST_GAIN < gain);
+    let words = T::count(pairs);
+    let mut i = 0;
+    // No `for` over chunks, for the reason that `cut` has.
+    while i < words {
+        let n = PACKET_WORDS.min(words - i);
+        if fault_in(wire::part(pairs, i, n)) {
+            return true;
+        }
+        i += n;
     }
-    wrong
+    false
 }
 
 // Whether there are no words, the colour is over 3, or a word is at fault.

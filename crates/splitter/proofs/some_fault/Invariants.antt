@@ -1,9 +1,12 @@
--- The loop keeps that a fault so far, or one behind, is one of all.
-use Rattle.std.proofs.Common.{◌≡◌, ◌||◌, ◌*◌, drop}
+-- The loop passes whole pairs, none of which has a fault.
+use Rattle.std.proofs.Common.{◌-◌, ◌%◌, ◌≡◌, drop}
 use Rattle.splitter.proofs.Faults.{faulty}
 use Rattle.splitter.proofs.some_fault.Given as goal
 
-abbrev pub invariant-loop-k : goal.invariant-loop-k
-invariant-loop-k g l =
+abbrev pub invariant-loop-i : goal.invariant-loop-i
+invariant-loop-i g l =
     let ws = g.T.Element.numbers l.pairs in
-    (l.wrong || faulty (drop (2 * l.k) ws)) ≡ faulty ws
+    (faulty (drop l.i ws) ≡ faulty ws) × (l.i % 2 ≡ 0)
+
+abbrev pub decreases-loop-i : goal.decreases-loop-i
+decreases-loop-i g l = l.words - l.i
