@@ -7,7 +7,6 @@ ghost use Rattle.std.specs.Prelude.{◌+◌, ◌<◌, ◌≤◌, length};
 use batch::Sent;
 use packet::Command;
 use show::Hex;
-use std::io;
 use wire::Refusal;
 
 // Numbers of points that no map has, and each lent list once too short, the exact ones too long as
@@ -37,23 +36,23 @@ const NOTHING: Sent = Sent {
 };
 
 fn main(rt: HostRuntime) {
-    // A write that fails ends the run, and is no failure of it.
-    let _ = run(&rt);
+    run(&rt);
 }
 
-fn run(rt: &impl Print) -> io::Result<()> {
-    present_packets(rt)?;
+// A write that fails is passed over, here and below: what follows is still written.
+fn run(rt: &impl Print) {
+    present_packets(rt);
     // Points 0 and 2 differ; points 0 and 3 differ.
-    present_plan(rt, &[0, 0, 0, 0, 0, 0, 0, 0], &[1, 2, 0, 0, 3, 4, 0, 0])?;
-    present_plan(rt, &[0, 0, 0, 0, 0, 0, 0, 0], &[1, 2, 0, 0, 0, 0, 3, 4])?;
-    present_gains(rt, &[5, 5, 5, 7, 8191, 8191, 0], 2009)?;
-    present_gains(rt, &[5, 5, 5, 7, 8191, 8191, 0], 2010)?;
-    present_gains(rt, &[8192], 0)?;
-    println!(rt; "lengths and points that planning refuses, and two that it takes")?;
-    present_refusals(rt)
+    present_plan(rt, &[0, 0, 0, 0, 0, 0, 0, 0], &[1, 2, 0, 0, 3, 4, 0, 0]);
+    present_plan(rt, &[0, 0, 0, 0, 0, 0, 0, 0], &[1, 2, 0, 0, 0, 0, 3, 4]);
+    present_gains(rt, &[5, 5, 5, 7, 8191, 8191, 0], 2009);
+    present_gains(rt, &[5, 5, 5, 7, 8191, 8191, 0], 2010);
+    present_gains(rt, &[8192], 0);
+    let _ = println!(rt; "lengths and points that planning refuses, and two that it takes");
+    present_refusals(rt);
 }
 
-fn present_packets(rt: &impl Print) -> io::Result<()> {
+fn present_packets(rt: &impl Print) {
     // Frames, commands and points; the last but one is refused with 12 behind reading, which takes
     // it.
     present_all(
@@ -82,7 +81,7 @@ fn present_packets(rt: &impl Print) -> io::Result<()> {
             b"\x14\x34\x06\x00\xc0\x07\x01\x00\x02\x00",
             b"\x14\x2b\x08\x00\x00\x01\x01\x00\xdf\x07\x00\x14",
         ],
-    )?;
+    );
     // Compressed gains. The last two are the guide's example with its length field: its first two
     // pairs, the second of them 0 of 63; then all of it.
     present_all(
@@ -101,7 +100,7 @@ fn present_packets(rt: &impl Print) -> io::Result<()> {
             b"\x54\x2b\x0e\x00\x01\x00\x04\x00\x00\x00\x3f\x00\x00\x10\x00\x00\x3f\x00",
             b"\x54\x2b\x86\x00\x01\x00\x40\x00\x00\x00\x3f\x00\x00\x10\x00\x00\x3f\x00\x00\x00\x3f\x00\x00\x00\x3f\x00\x00\x00\x3f\x00\x00\x00\x3f\x00\x00\x00\x3f\x00\x00\x00\x3f\x00\x00\x00\x3f\x00\x00\x00\x3f\x00\x00\x00\x3f\x00\x00\x00\x3f\x00\x00\x00\x3f\x00\x00\x00\x3f\x00\x00\x00\x3f\x00\x00\x00\x3f\x00\x3f\x00\x7f\x0f\x3f\x00\x75\x0e\x3f\x00\x6c\x0d\x3f\x00\x6a\x0c\x3f\x00\x60\x0b\x3f\x00\x57\x0a\x3f\x00\x4d\x09\x3f\x00\x44\x08\x3f\x00\x42\x07\x3f\x00\x38\x06\x3f\x00\x2f\x05\x3f\x00\x25\x04\x3f\x00\x1c\x03\x3f\x00\x1a\x02\x3f\x00\x11\x01\x3f\x00\x07\x00",
         ],
-    )?;
+    );
     // Two faults, of which the first is named: a UART of baud 12 and parity 3. A read of pin 88.
     present_all(
         rt,
@@ -109,18 +108,17 @@ fn present_packets(rt: &impl Print) -> io::Result<()> {
             b"\x64\x6d\x00\x01\x0c\x03\x00\x03\x00\x00\x00\x00\x00\xd0",
             b"\x84\x60\x58",
         ],
-    )
+    );
 }
 
-fn present_all(rt: &impl Print, packets: &[&[u8]]) -> io::Result<()> {
+fn present_all(rt: &impl Print, packets: &[&[u8]]) {
     for packet in packets {
-        present(rt, packet)?;
+        present(rt, packet);
     }
-    Ok(())
 }
 
 // The plan for a map of four points: its packets, its bytes and the batch.
-fn present_plan(rt: &impl Print, held: &[u16], wanted: &[u16]) -> io::Result<()> {
+fn present_plan(rt: &impl Print, held: &[u16], wanted: &[u16]) {
     let mut plan = [0u16; planning::PLAN_SIZE];
     let mut room = [0u32; planning::ROOM_SIZE];
     let mut choices = [0u8; planning::CHOICES_SIZE];
@@ -134,67 +132,65 @@ fn present_plan(rt: &impl Print, held: &[u16], wanted: &[u16]) -> io::Result<()>
         &mut choices,
         &mut batch,
     );
-    print!(rt; "plan: ")?;
-    let sent = print_planned(rt, planned)?;
-    println!(rt;)?;
-    show_packets(rt, &batch, sent.bytes)?;
-    show_rooms(rt, &room, &choices)
+    let _ = print!(rt; "plan: ");
+    let sent = print_planned(rt, planned);
+    let _ = println!(rt;);
+    show_packets(rt, &batch, sent.bytes);
+    show_rooms(rt, &room, &choices);
 }
 
 // Gains of blue from a start on, as 16-bit numbers: how many pairs they are, and the packets of
 // these.
-fn present_gains(rt: &impl Print, gains: &[u16], start: u32) -> io::Result<()> {
+fn present_gains(rt: &impl Print, gains: &[u16], start: u32) {
     let mut pairs = [0u16; compressor::PAIRS_ROOM];
     let (status, n) = match compressor::numbers::compress(gains, &mut pairs) {
         Ok(n) => (0, n),
         Err(why) => (why.number(), 0),
     };
-    print!(rt; "gains: status {status}, pairs {n}")?;
-    present_split(rt, start, &pairs[..2 * n])
+    let _ = print!(rt; "gains: status {status}, pairs {n}");
+    present_split(rt, start, &pairs[..2 * n]);
 }
 
-fn present_split(rt: &impl Print, start: u32, pairs: &[u16]) -> io::Result<()> {
+fn present_split(rt: &impl Print, start: u32, pairs: &[u16]) {
     let mut batch = [0u8; splitter::BATCH_ROOM];
     let (status, sent) = match splitter::numbers::split(3, start, pairs, &mut batch) {
         Ok(sent) => (0, sent),
         Err(why) => (why.number(), NOTHING),
     };
-    print!(rt; "; split: ")?;
-    print_sent(rt, status, sent)?;
-    println!(rt;)?;
-    show_packets(rt, &batch, sent.bytes)
+    let _ = print!(rt; "; split: ");
+    print_sent(rt, status, sent);
+    let _ = println!(rt;);
+    show_packets(rt, &batch, sent.bytes);
 }
 
 // The room's numbers and the choices of four points and of one behind them.
-fn show_rooms(rt: &impl Print, room: &[u32], choices: &[u8]) -> io::Result<()>
+fn show_rooms(rt: &impl Print, room: &[u32], choices: &[u8])
     requires { (4 < length room.now) × (4 < length choices.now) }
 {
     for k in 0..5 {
-        println!(rt;
+        let _ = println!(rt;
             "  bytes from point {k} on {}, choice {}",
             room[k], choices[k]
-        )?;
+        );
     }
-    Ok(())
 }
 
 // The packets in the first n bytes of a batch, a line each: where one ends its own header and
 // length field say.
-fn show_packets(rt: &impl Print, batch: &[u8], n: usize) -> io::Result<()> {
+fn show_packets(rt: &impl Print, batch: &[u8], n: usize) {
     let mut at = 0;
     // No `for`: a step is a packet.
     while at < n.min(batch.len()) {
         let rest = &batch[at..];
         let size = packet::announced(rest);
-        println!(rt; " {}", Hex(&rest[..size.min(rest.len())]))?;
+        let _ = println!(rt; " {}", Hex(&rest[..size.min(rest.len())]));
         at += size;
     }
-    Ok(())
 }
 
 // A plan for each row of lengths, on parts that are no longer than the lists, held and wanted being
 // parts of one map.
-fn present_refusals(rt: &impl Print) -> io::Result<()> {
+fn present_refusals(rt: &impl Print) {
     let map = [0u16; 9];
     let mut plan = [7u16; planning::PLAN_SIZE + 1];
     let mut room = [7u32; planning::ROOM_SIZE + 1];
@@ -211,9 +207,8 @@ fn present_refusals(rt: &impl Print) -> io::Result<()> {
             &mut room[..r.min(planning::ROOM_SIZE + 1)],
             &mut choices[..c.min(planning::CHOICES_SIZE + 1)],
             &mut batch[..b.min(planning::BATCH_SIZE + 1)],
-        )?;
+        );
     }
-    Ok(())
 }
 
 // One plan; and what stands first in each list then.
@@ -226,34 +221,34 @@ fn try_plan(
     room: &mut [u32],
     choices: &mut [u8],
     batch: &mut [u8],
-) -> io::Result<()> {
+) {
     let planned = planner_numbers::plan(points, held, wanted, plan, room, choices, batch);
-    print!(rt; "  ")?;
-    print_planned(rt, planned)?;
-    println!(rt;
+    let _ = print!(rt; "  ");
+    print_planned(rt, planned);
+    let _ = println!(rt;
         "; left {} {} {} {}",
         first(plan),
         first(room),
         first(choices),
         first(batch)
-    )
+    );
 }
 
 // What planning answers; and the batch that it made.
-fn print_planned(rt: &impl Print, planned: Result<Sent, planning::Refusal>) -> io::Result<Sent> {
+fn print_planned(rt: &impl Print, planned: Result<Sent, planning::Refusal>) -> Sent {
     let (status, sent) = match planned {
         Ok(sent) => (0, sent),
         Err(why) => (why.number(), NOTHING),
     };
-    print_sent(rt, status, sent)?;
-    Ok(sent)
+    print_sent(rt, status, sent);
+    sent
 }
 
-fn print_sent(rt: &impl Print, status: u8, sent: Sent) -> io::Result<()> {
-    print!(rt;
+fn print_sent(rt: &impl Print, status: u8, sent: Sent) {
+    let _ = print!(rt;
         "status {status}, packets {}, bytes {}",
         sent.packets, sent.bytes
-    )
+    );
 }
 
 // What stands first in a list, 0 where there is nothing.
@@ -265,15 +260,15 @@ fn first<T: Copy + Default>(list: &[T]) -> T {
 }
 
 // One packet: its bytes, what reading gives, and the bytes made again.
-fn present(rt: &impl Print, bytes: &[u8]) -> io::Result<()> {
-    println!(rt; "packet{}", Hex(bytes))?;
+fn present(rt: &impl Print, bytes: &[u8]) {
+    let _ = println!(rt; "packet{}", Hex(bytes));
     match packet::read(bytes) {
         Ok(command) => present_command(rt, command, bytes),
         Err(why) => print_refusal(rt, why),
     }
 }
 
-fn present_command(rt: &impl Print, command: Command, bytes: &[u8]) -> io::Result<()>
+fn present_command(rt: &impl Print, command: Command, bytes: &[u8])
     requires { command.at + command.size ≤ length bytes.now }
 {
     let Command {
@@ -282,26 +277,28 @@ fn present_command(rt: &impl Print, command: Command, bytes: &[u8]) -> io::Resul
         at,
         size,
     } = command;
-    println!(rt; "  opcode {opcode:02x}h, options {options:02x}h, data at {at}, size {size}")?;
-    make_again(rt, opcode, options, command.data(bytes))
+    let _ = println!(rt;
+        "  opcode {opcode:02x}h, options {options:02x}h, data at {at}, size {size}"
+    );
+    make_again(rt, opcode, options, command.data(bytes));
 }
 
-fn make_again(rt: &impl Print, opcode: u8, options: u8, data: &[u8]) -> io::Result<()> {
+fn make_again(rt: &impl Print, opcode: u8, options: u8, data: &[u8]) {
     let mut buffer = [0u8; 512];
     let (status, size) = match packet::make(opcode as u16, options, data, &mut buffer) {
         Ok(size) => (0, size),
         Err(why) => (why.number(), 0),
     };
-    println!(rt;
+    let _ = println!(rt;
         "  made again, status {status}:{}",
         Hex(&buffer[..size.min(512)])
-    )
+    );
 }
 
-fn print_refusal(rt: &impl Print, why: Refusal) -> io::Result<()> {
-    print!(rt; "  refused {}", why.number())?;
+fn print_refusal(rt: &impl Print, why: Refusal) {
+    let _ = print!(rt; "  refused {}", why.number());
     if let Refusal::ValueWrong(place) = why {
-        print!(rt; ", at data byte {place}")?;
+        let _ = print!(rt; ", at data byte {place}");
     }
-    println!(rt;)
+    let _ = println!(rt;);
 }

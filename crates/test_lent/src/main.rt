@@ -8,7 +8,6 @@ ghost use Rattle.std.specs.Prelude.{◌≤◌, length};
 use front_end::{GAINS_SIZE, MAP_SIZE, Outcome, REPLY_ROOM};
 use settings::layout::BLOCK_SIZE;
 use show::Hex;
-use std::io;
 
 // Three groups of packets. The first reads what is lent, and stores a setting, four staged points
 // and, applied, live ones. Those of the second are lent one of the lists a number short. The last
@@ -28,8 +27,8 @@ fn main(rt: HostRuntime) {
     };
     lists.reset();
     lists.lend_large();
-    // A write that fails ends the run, and is no failure of it.
-    let _ = run(
+    // A write that fails is passed over, here and below: what follows is still written.
+    run(
         &rt,
         &[
             b"\x84\x2b\x01\x04\x00\x03\x00",
@@ -101,27 +100,26 @@ impl Lists<'_> {
     }
 }
 
-fn run(rt: &impl Print, packets: &[&[u8]], lists: &mut Lists) -> io::Result<()> {
+fn run(rt: &impl Print, packets: &[&[u8]], lists: &mut Lists) {
     for (i, packet) in packets.iter().enumerate() {
-        head(rt, i)?;
-        step(rt, i, packet, lists)?;
-        tell(rt, i, lists)?;
+        head(rt, i);
+        step(rt, i, packet, lists);
+        tell(rt, i, lists);
     }
-    Ok(())
 }
 
-fn head(rt: &impl Print, i: usize) -> io::Result<()> {
-    match i {
+fn head(rt: &impl Print, i: usize) {
+    let _ = match i {
         0 => println!(rt; "gains lent above 8191"),
         FIRST_SHORT => println!(rt; "lists that are a number short"),
         FIRST_SPOILT => println!(rt; "a setting out of range"),
         _ => Ok(()),
-    }
+    };
 }
 
 // A packet on the lists, or with one of them lent a number short. The reply buffer is the last of
 // them, as it alone does not stop a reset.
-fn step(rt: &impl Print, i: usize, packet: &[u8], lists: &mut Lists) -> io::Result<()> {
+fn step(rt: &impl Print, i: usize, packet: &[u8], lists: &mut Lists) {
     let b = lent(lists.block, i == FIRST_SHORT);
     let s = lent(lists.staged, i == FIRST_SHORT + 1);
     let l = lent(lists.live, i == FIRST_SHORT + 2);
@@ -150,7 +148,7 @@ fn on_parts(
     live: &mut [u16],
     gains: &mut [u16],
     reply: &mut [u8],
-) -> io::Result<()> {
+) {
     let mut lists = Lists {
         block,
         staged,
@@ -158,8 +156,8 @@ fn on_parts(
         gains,
         reply,
     };
-    prepare(rt, i, &mut lists)?;
-    send(rt, packet, &mut lists)
+    prepare(rt, i, &mut lists);
+    send(rt, packet, &mut lists);
 }
 
 fn is_short(i: usize) -> bool {
@@ -178,41 +176,39 @@ fn lent<T>(list: &[T], short: bool) -> usize
 }
 
 // A reset, where a list is a number short; behind those steps a setting out of range.
-fn prepare(rt: &impl Print, i: usize, lists: &mut Lists) -> io::Result<()> {
+fn prepare(rt: &impl Print, i: usize, lists: &mut Lists) {
     if FIRST_SPOILT <= i {
         lists.spoil();
     }
     if is_short(i) {
-        println!(rt; "  reset -> {}", lists.reset())?;
+        let _ = println!(rt; "  reset -> {}", lists.reset());
     }
-    Ok(())
 }
 
 // One packet: its bytes, the status, and the reply if there is one.
-fn send(rt: &impl Print, packet: &[u8], lists: &mut Lists) -> io::Result<()> {
+fn send(rt: &impl Print, packet: &[u8], lists: &mut Lists) {
     let o = lists.handle(packet);
-    print!(rt; " {} -> {}", Hex(packet), o.status())?;
+    let _ = print!(rt; " {} -> {}", Hex(packet), o.status());
     if 0 < o.size {
-        print_reply(rt, lists.reply, o.size)?;
+        print_reply(rt, lists.reply, o.size);
     }
-    println!(rt;)
+    let _ = println!(rt;);
 }
 
-fn print_reply(rt: &impl Print, reply: &[u8], size: usize) -> io::Result<()> {
-    print!(rt; ":{}", Hex(&reply[..size.min(reply.len())]))
+fn print_reply(rt: &impl Print, reply: &[u8], size: usize) {
+    let _ = print!(rt; ":{}", Hex(&reply[..size.min(reply.len())]));
 }
 
-fn tell(rt: &impl Print, i: usize, lists: &Lists) -> io::Result<()> {
-    if !is_short(i) {
-        return Ok(());
+fn tell(rt: &impl Print, i: usize, lists: &Lists) {
+    if is_short(i) {
+        let _ = println!(rt;
+            "  left {} {} {} {}",
+            at(lists.block, 0),
+            at(lists.staged, 6),
+            at(lists.live, 6),
+            at(lists.gains, 6)
+        );
     }
-    println!(rt;
-        "  left {} {} {} {}",
-        at(lists.block, 0),
-        at(lists.staged, 6),
-        at(lists.live, 6),
-        at(lists.gains, 6)
-    )
 }
 
 // What stands at a place of a list, 0 past its end.
