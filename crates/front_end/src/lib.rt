@@ -313,10 +313,21 @@ fn store_apply(block: &mut [u8], data: &[u8])
 {
     if wire::byte(data, 0) == 1 {
         wire::put_byte(block, ENABLE, 1);
-        block.copy_within(STAGED_SHAPE..STAGED_SHAPE + SHAPE_SIZE, LIVE_SHAPE);
+        copy_within(block, LIVE_SHAPE, STAGED_SHAPE, SHAPE_SIZE);
         return;
     }
     wire::put_byte(block, ENABLE, 0);
+}
+
+// Copies n bytes from a place on over those from a place behind them on. One by one, since the
+// library's method would have the archive for C ask for one name more of the C library.
+fn copy_within(block: &mut [u8], at: usize, from: usize, n: usize)
+    requires { (from + n ≤ at) × (at + n ≤ length block.old) }
+    ensures { block.new ≡ paste block.old at (drop from block.old) n }
+{
+    for k in 0..n {
+        block[at + k] = block[from + k];
+    }
 }
 
 // The data that a read of a setting returns, over the start of the buffer. Answers its size.

@@ -263,7 +263,18 @@ fn apply<T: Element>(opcode: usize, data: &[u8], staged: &[T], live: &mut [T])
 {
     // By number, as the rules and guides have it: variants would only name the numbers once more.
     if (opcode == 0x36) & (wire::byte(data, 0) == 1) {
-        live.copy_from_slice(staged);
+        copy_all(live, staged);
+    }
+}
+
+// A list as another one of its length is. One by one, since the library's method would have the
+// archive for C ask for one name more of the C library.
+fn copy_all<T: Element>(to: &mut [T], from: &[T])
+    requires { length to.old ≡ length from.now }
+    ensures { to.new ≡ from.now }
+{
+    for i in 0..from.len() {
+        to[i] = from[i];
     }
 }
 

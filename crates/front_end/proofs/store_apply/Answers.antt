@@ -13,7 +13,7 @@ use Rattle.front_end.proofs.store_apply.Goals as goal
 pub returns-then-byte-eq1 : goal.returns-then-byte-eq1
 unfolding apply_block
 returns-then-byte-eq1 c = let one : byte_at c.args.«data».now 0 ≡ 1 = sym c.byte.ensures.0 ∙ c.if-byte-eq1.true in
-    rw (one, c.copy_within.ensures.after, c.put_byte.ensures) (shape-applied c.args.block.now c.requires)
+    rw (one, c.copy_within.ensures, c.put_byte.ensures) (shape-applied c.args.block.now c.requires)
 
 pub returns : goal.returns
 unfolding apply_block

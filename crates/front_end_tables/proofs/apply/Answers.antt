@@ -13,7 +13,7 @@ unfolding apply_live
 returns-then-opcode-byte g c =
     let numbers = g.T.Element.numbers in
     rw (← c.byte.ensures.0, ← both (nat_eq c.args.opcode 54) (nat_eq c.byte.result 1) (numbers c.args.staged.now) (numbers c.args.live.now), c.if-opcode-byte.true)
-    (ap numbers c.copy_from_slice.ensures.after)
+    (ap numbers c.copy_all.ensures)
 
 pub returns-else-opcode-byte : goal.returns-else-opcode-byte
 unfolding apply_live
