@@ -13,7 +13,7 @@ use batch::Sent;
 use planning::{Lists, Maps, Refusal};
 
 // The least bytes for an upload, from the last point back: fills the room and the choices, as far
-// as they reach.
+// as they reach. A last part of a number in the room stays.
 pub fn measure(held: &[u8], wanted: &[u8], room: &mut [u8], choices: &mut [u8], n: usize) -> u32
     requires { MapsLent 4 n held.now wanted.now }
     ensures { MeasuredBytes n held.now wanted.now room.old choices.old

@@ -95,7 +95,7 @@ fn point<T: Element>(map: &[T], i: usize) -> u32
 }
 
 // The least bytes for an upload, from the last point back: fills the room and the choices, as far
-// as they reach.
+// as they reach. What lies behind the room's numbers stays.
 pub fn measure<T: Element, R: Room>(
     maps: &Maps<T>,
     room: &mut [R],
@@ -103,8 +103,10 @@ pub fn measure<T: Element, R: Room>(
     n: usize,
 ) -> u32
     requires { MapsLent 2 n (T.numbers maps.now.held.now) (T.numbers maps.now.wanted.now) }
-    ensures { Measured n (T.numbers maps.now.held.now) (T.numbers maps.now.wanted.now)
+    ensures measured { Measured n (T.numbers maps.now.held.now) (T.numbers maps.now.wanted.now)
         (length (R.longs room.old)) (length choices.old) result (R.longs room.new) choices.new }
+    ensures behind { drop (R.WIDTH * length (R.longs room.old)) room.new
+        ≡ drop (R.WIDTH * length (R.longs room.old)) room.old }
 {
     R::clear(room);
     choices.fill(0);

@@ -1,5 +1,5 @@
 // Working rooms of 32-bit numbers, however they are lent: as the numbers, or as their bytes.
-ghost use Rattle.std.specs.Prelude.{◌≡◌, ℕ, List, length, set, replicate};
+ghost use Rattle.std.specs.Prelude.{◌≡◌, ◌*◌, ℕ, List, length, drop, set, replicate};
 ghost use Rattle.wire.specs.Tables.{longs};
 ghost use Rattle.wire.specs.Elements.{themselves};
 ghost use Rattle.planning.specs.Rooms.{RoomLaws, long_laws, byte_laws};
@@ -16,13 +16,17 @@ pub trait Room: Copy {
 
     ghost laws: { RoomLaws WIDTH longs };
 
-    // Number i, if the room has it.
+    // Number i, if the room has it. What lies behind the numbers stays.
     fn keep(room: &mut [Self], i: usize, v: u32)
-        ensures { longs room.new ≡ set (longs room.old) i v };
+        ensures kept { longs room.new ≡ set (longs room.old) i v }
+        ensures behind { drop (WIDTH * length (longs room.old)) room.new
+            ≡ drop (WIDTH * length (longs room.old)) room.old };
 
-    // Zeros everywhere.
+    // Zeros for all numbers. What lies behind them stays.
     fn clear(room: &mut [Self])
-        ensures { longs room.new ≡ replicate (length (longs room.old)) 0 };
+        ensures cleared { longs room.new ≡ replicate (length (longs room.old)) 0 }
+        ensures behind { drop (WIDTH * length (longs room.old)) room.new
+            ≡ drop (WIDTH * length (longs room.old)) room.old };
 }
 
 impl Room for u32 {
@@ -63,6 +67,7 @@ impl Room for u8 {
     }
 
     fn clear(room: &mut [u8]) {
-        room.fill(0);
+        let whole = 4 * (room.len() / 4);
+        room[..whole].fill(0);
     }
 }

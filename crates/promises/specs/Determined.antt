@@ -1,9 +1,8 @@
 -- For each entry: two outcomes (its answer, and every lent list at exit) that both meet its plain
 -- promise are equal. So who believes the plain promises need not believe the definitions that the
 -- code is proved to equal. Lists that are lent as bytes are bytes (`Bytes`, `AllBytes`, of a block
--- on numbers the four of the row mark, `MarkBytes`), and measuring on bytes is lent a room of whole
--- numbers, as it asks for; nothing else is assumed.
-use Rattle.std.specs.Prelude.{ℕ, ◌%◌, ◌≡◌, Bool, List, length}
+-- on numbers the four of the row mark, `MarkBytes`); nothing else is assumed.
+use Rattle.std.specs.Prelude.{ℕ, ◌≡◌, Bool, List}
 use Rattle.wire.specs.Plain.{Bytes, «Pinned» as BytesNamed}
 use Rattle.gain_words.specs.Plain.{«Pinned» as PairsNamed}
 use Rattle.opcode.specs.Plain.{«Pinned» as BitsNamed}
@@ -74,9 +73,9 @@ pub record OnBytes : Type 0 where
       → SplitPlainBytes colour start pairs batch q → o ≡ q
   pub plan : (n : ℕ) (held wanted : List ℕ) (before : PlanLists) (o q : PlanOut) → Bytes o.left.plan → Bytes o.left.room
       → Bytes q.left.plan → Bytes q.left.room → PlanBytesPlain n held wanted before o → PlanBytesPlain n held wanted before q → o ≡ q
-  -- A room of whole numbers, as measuring asks for.
+  -- A room of any length: it may end in a part of a number.
   pub measure : (n : ℕ) (held wanted room₀ choices₀ : List ℕ) (size : ℕ) (room choices : List ℕ) (size' : ℕ) (room' choices' : List ℕ)
-      → length room₀ % 4 ≡ 0 → Bytes room → Bytes room' → MeasuredBytesPlain n held wanted room₀ choices₀ size room choices
+      → Bytes room → Bytes room' → MeasuredBytesPlain n held wanted room₀ choices₀ size room choices
       → MeasuredBytesPlain n held wanted room₀ choices₀ size' room' choices' → (size ≡ size') × (room ≡ room') × (choices ≡ choices')
 
 -- The entries of include/vermolgas.h: the number answered, and every list.

@@ -1,5 +1,5 @@
 -- The plain promises alone determine every answer: two outcomes that both meet them are equal.
-use Prim.Native.Nat.{ℕ, ◌+◌, ◌*◌, ◌%◌, ◌≤◌, ◌<◌}
+use Prim.Native.Nat.{ℕ, ◌+◌, ◌*◌, ◌/◌, ◌%◌, ◌≤◌, ◌<◌}
 use mathlib.Core.Path.{◌≡◌, refl, sym, ap, ◌∙◌}
 use mathlib.Core.Bool.{Bool, true, false}
 use mathlib.Core.List.{List, map}
@@ -70,6 +70,17 @@ front m a b h g e =
     let long = length-take-le m a h in
     ext_get_or 0 (take m a) (take m b) (long ∙ sym (length-take-le m b g))
     (λ k l. let l' : k < m = omega arith in get_or-take m a k 0 l' ∙ e k l' ∙ sym (get_or-take m b k 0 l'))
+
+-- Lists that are equal up to a place, and behind it element by element.
+each-behind : (m : ℕ) (a b : List ℕ) → length a ≡ length b → take m a ≡ take m b
+    → ((k : ℕ) → m ≤ k → k < length a → get_or a k 0 ≡ get_or b k 0) → a ≡ b
+each-behind m a b long e f = ext_get_or 0 a b long (λ k l. go k l (ltb k m) refl)
+  where
+    go : (k : ℕ) → k < length a → (t : Bool) → ltb k m ≡ t → get_or a k 0 ≡ get_or b k 0
+    go k l true h =
+        let before : k < m = ltb-true _ _ h in
+        sym (get_or-take m a k 0 before) ∙ ap (λ (s : List ℕ). get_or s k 0) e ∙ get_or-take m b k 0 before
+    go k l false h = f k (ltb-false _ _ h) l
 
 -- Rules 6.2 to 6.5, on numbers: the plan is the only one that is chosen; the rest follows from it.
 module _ {n : ℕ} {held wanted : List ℕ} {before : PlanLists} (right : PlanNumbersRight n held wanted before) {packets size packets' size' : ℕ} {a b : PlanLists}
@@ -157,19 +168,21 @@ plan-bytes-one a b h g small small' e = sym (halves_pairs 256 a h small) ∙ ap 
 room-bytes-one : (a b : List ℕ) → length a % 4 ≡ 0 → length b % 4 ≡ 0 → Bytes a → Bytes b → longs a ≡ longs b → a ≡ b
 room-bytes-one a b h g small small' e = sym (bytes-longs a h small) ∙ ap long_bytes e ∙ bytes-longs b g small'
 
--- The numbers in a room's first 508 bytes.
-longs-front : (a : List ℕ) → longs (take 508 a) ≡ take 127 (longs a)
-longs-front a = rw (pairs-take 256 254 a, pairs-take 65536 127 (words a))
+-- The first numbers of a room, four bytes each.
+longs-front : (q : ℕ) (a : List ℕ) → longs (take (4 * q) a) ≡ take q (longs a)
+longs-front q a =
+    let four : 4 * q ≡ 2 * (2 * q) = omega arith in
+    rw (four, pairs-take 256 (2 * q) a, pairs-take 65536 q (words a))
 
 bytes-front : (m : ℕ) (l : List ℕ) → Bytes l → Bytes (take m l)
 bytes-front m l small k = below-take m l (omega arith) small k
 
-room-front-one : (a b : List ℕ) → 508 ≤ length a → 508 ≤ length b → Bytes a → Bytes b → longs a ≡ longs b → take 508 a ≡ take 508 b
-room-front-one a b h g small small' e =
-    let long = length-take-le 508 a h in
-    let long' = length-take-le 508 b g in
-    room-bytes-one (take 508 a) (take 508 b) (omega arith) (omega arith) (bytes-front 508 a small) (bytes-front 508 b small')
-    (longs-front a ∙ ap (take 127) e ∙ sym (longs-front b))
+room-front-one : (q : ℕ) (a b : List ℕ) → 4 * q ≤ length a → 4 * q ≤ length b → Bytes a → Bytes b → longs a ≡ longs b → take (4 * q) a ≡ take (4 * q) b
+room-front-one q a b h g small small' e =
+    let long = length-take-le (4 * q) a h in
+    let long' = length-take-le (4 * q) b g in
+    room-bytes-one (take (4 * q) a) (take (4 * q) b) (omega arith) (omega arith) (bytes-front (4 * q) a small) (bytes-front (4 * q) b small')
+    (longs-front q a ∙ ap (take q) e ∙ sym (longs-front q b))
 
 pub plan-determined-bytes : (n : ℕ) (held wanted : List ℕ) (before : PlanLists) (a b : PlanOut) → Bytes a.left.plan → Bytes a.left.room
     → Bytes b.left.plan → Bytes b.left.room → PlanBytesPlain n held wanted before a → PlanBytesPlain n held wanted before b → a ≡ b
@@ -186,7 +199,7 @@ plan-determined-bytes n held wanted before a b plan room plan' room' p q =
           (plan-bytes-one a.left.plan b.left.plan (omega (arith, p.plan-kept, asked.1.plan-long)) (omega (arith, q.plan-kept, asked.1.plan-long)) plan plan'
           (plan-one right s t))
           (both-parts 508 a.left.room b.left.room
-          (room-front-one a.left.room b.left.room (omega (arith, p.room-kept, asked.1.room-long)) (omega (arith, q.room-kept, asked.1.room-long)) room room'
+          (room-front-one 127 a.left.room b.left.room (omega (arith, p.room-kept, asked.1.room-long)) (omega (arith, q.room-kept, asked.1.room-long)) room room'
           (rooms-one right s t))
           (p.room-behind ∙ sym q.room-behind))
           (choices-lists-one right s t) (batch-one right s t)
@@ -210,15 +223,22 @@ measure-determined n held wanted numbers many size room choices size' room' choi
           (λ k l. choices-one p.choices-mean q.choices-mean k (omega (arith, p.choices-long)));
     }
 
--- On bytes: measuring is lent a room of whole numbers.
+-- On bytes: the room's numbers, and behind them what was there.
 pub measure-determined-bytes : (n : ℕ) (held wanted room₀ choices₀ : List ℕ) (size : ℕ) (room choices : List ℕ) (size' : ℕ) (room' choices' : List ℕ)
-    → length room₀ % 4 ≡ 0 → Bytes room → Bytes room' → MeasuredBytesPlain n held wanted room₀ choices₀ size room choices
+    → Bytes room → Bytes room' → MeasuredBytesPlain n held wanted room₀ choices₀ size room choices
     → MeasuredBytesPlain n held wanted room₀ choices₀ size' room' choices' → SameMeasure size room choices size' room' choices'
-measure-determined-bytes n held wanted room₀ choices₀ size room choices size' room' choices' whole small small' p q =
+measure-determined-bytes n held wanted room₀ choices₀ size room choices size' room' choices' small small' p q =
+    let whole : ℕ = length room₀ / 4 in
     let same =
     measure-determined n (words held) (words wanted) (length (longs room₀)) (length choices₀) size (longs room) choices size' (longs room') choices' p.numbers q.numbers in
+    let within : 4 * whole ≤ length room = omega (arith, p.room-kept) in
+    let within' : 4 * whole ≤ length room' = omega (arith, q.room-kept) in
+    let numbers = room-front-one whole room room' within within' small small' same.rooms in
     record {
       sizes = same.sizes;
-      rooms = room-bytes-one room room' (rw p.room-kept whole) (rw q.room-kept whole) small small' same.rooms;
+      rooms =
+          each-behind (4 * whole) room room' (omega (arith, p.room-kept, q.room-kept)) numbers
+          (λ k h l. let in_room : k < length room₀ = omega (arith, p.room-kept) in
+          p.room-behind k (omega arith) in_room ∙ sym (q.room-behind k (omega arith) in_room));
       choices-lists = same.choices-lists;
     }

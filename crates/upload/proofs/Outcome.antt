@@ -1,7 +1,7 @@
 -- What planning promises, from what its code leaves: which refusal it gives, and that nothing changes then; else demand 3 holds
 -- of the byte count answered, the plan is the one that rule 6.2 chooses, and room and choices hold what rule 6.5 says. Once for lists of
 -- numbers, and once for their bytes.
-use Prim.Native.Nat.{ℕ, zero, suc, ◌+◌, ◌≤◌, ◌<◌, ◌*◌}
+use Prim.Native.Nat.{ℕ, zero, suc, ◌+◌, ◌-◌, ◌*◌, ◌/◌, ◌≤◌, ◌<◌}
 use mathlib.Core.Path.{◌≡◌, refl, sym, ap, ◌∙◌}
 use mathlib.Core.Logic.{◌↔◌}
 use mathlib.Core.Bool.{Bool, true, false}
@@ -9,7 +9,7 @@ use mathlib.Core.List.{List, [], ◌∷◌, ◌++◌}
 use native.Mathlib.Omega.{arith}
 use borrow.Author.Tests.{eqb-true, eq-eqb, ne_eqb, le-leb, le-ltb, eqb-false}
 use lib.ListN.{length, take, drop, get_or, length-append, length-map, length-take, length-drop}
-use lib.Seq.{drop_at, take-append-le}
+use lib.Seq.{drop_at, get_or-drop, take-append-le}
 use lib.Dec.{eqb}
 use Rattle.wire.specs.First.{first}
 use Rattle.wire.specs.Buffers.{over}
@@ -208,15 +208,29 @@ module _ (n : ℕ) (held wanted : List ℕ) (h : MapOf n held) (w : MapOf n want
             };
       }
 
+-- Lists that are equal from a place on, element by element.
+behind-at : (m k : ℕ) (a b : List ℕ) → drop m a ≡ drop m b → m ≤ k → get_or a k 0 ≡ get_or b k 0
+behind-at m k a b e h =
+    let far : m + (k - m) ≡ k = omega arith in
+    rw (← far, ← get_or-drop m a (k - m) 0, ← get_or-drop m b (k - m) 0, e)
+
 pub measured-bytes : {n : ℕ} {held wanted room₀ choices₀ : List ℕ} {size : ℕ} {room choices : List ℕ} → length room ≡ length room₀
+    → drop (4 * length (longs room₀)) room ≡ drop (4 * length (longs room₀)) room₀
     → Measured n (words held) (words wanted) (length (longs room₀)) (length choices₀) size (longs room) choices
     → MeasuredBytes n held wanted room₀ choices₀ size room choices
-measured-bytes e t =
+measured-bytes {room₀ = room₀} {room = room} e b t =
+    let four : length (longs room₀) ≡ length room₀ / 4 = rw (length_pairs, length_pairs) (omega arith) in
     record {
       bytes-are = t.bytes-are;
       room-is = t.room-is;
+      room-behind = b;
       choices-are = t.choices-are;
-      plain = record { numbers = t.plain; room-kept = e };
+      plain =
+          record {
+            numbers = t.plain;
+            room-kept = e;
+            room-behind = λ k h l. behind-at (4 * length (longs room₀)) k room room₀ b (omega arith);
+          };
     }
 
 -- Demand 3 of the batch's own length.

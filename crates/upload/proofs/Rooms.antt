@@ -135,6 +135,10 @@ pub measure-small : {ds : List Bool} {numbers many : ℕ} {p : CostBehind} {room
     → Measuring ds numbers many p room choices-list i → Bounded p
 measure-small {ds} {i = i} few t = rw t.carried (carried-small (drop i ds) (rw length-drop (omega arith)))
 
+pub measure-long : {ds : List Bool} {numbers many : ℕ} {p : CostBehind} {room choices-list : List ℕ} {i : ℕ}
+    → Measuring ds numbers many p room choices-list i → length room ≡ numbers
+measure-long {ds} {numbers} t = t.room-from.long ∙ length-firsts numbers (rooms ds)
+
 pub measure-turn : {ds : List Bool} {numbers many : ℕ} {p q : CostBehind} {room choices-list room' choices-list' : List ℕ} {d : Bool} {j : ℕ} (i : ℕ) → j ≡ i + 1
     → d ≡ get_or ds i false → PointChosen d p i choices-list q choices-list' → room' ≡ set room i q.least
     → Measuring ds numbers many p room choices-list j → Measuring ds numbers many q room' choices-list' i

@@ -242,8 +242,9 @@ pub record MeasuredPlain (n : ℕ) (held wanted : List ℕ) (numbers many size :
   pub choices-long : length choices ≡ many
   pub choices-mean : ChoicesMean n held wanted many choices
 
--- Rule 1.3: the same of the numbers that bytes hold; the room was lent as bytes too, and keeps its
--- length.
+-- Rule 1.3: the same of the numbers that bytes hold; the room was lent as bytes too, keeps its
+-- length, and may end in a part of a number, whose bytes stay.
 pub record MeasuredBytesPlain (n : ℕ) (held wanted room₀ choices₀ : List ℕ) (size : ℕ) (room choices : List ℕ) : Type 0 where
   pub numbers : MeasuredPlain n (words held) (words wanted) (length (longs room₀)) (length choices₀) size (longs room) choices
   pub room-kept : length room ≡ length room₀
+  pub room-behind : (k : ℕ) → 4 * (length room₀ / 4) ≤ k → k < length room₀ → get_or room k 0 ≡ get_or room₀ k 0

@@ -1,6 +1,6 @@
 -- Rules 6.4 and 6.5: what planning answers, and what it leaves in the lent lists, by definitions
 -- that can be run; and what its code promises, by these and in plain terms (Plain).
-use Rattle.std.specs.Prelude.{ℕ, zero, suc, ◌*◌, ◌≤◌, ◌≡◌, Bool, cond, not, ◌&&◌, ◌||◌, List, [], ◌∷◌, map, length, eqb, leb, ltb}
+use Rattle.std.specs.Prelude.{ℕ, zero, suc, ◌*◌, ◌≤◌, ◌≡◌, Bool, cond, not, ◌&&◌, ◌||◌, List, [], ◌∷◌, map, length, drop, eqb, leb, ltb}
 use Rattle.wire.specs.First.{first}
 use Rattle.wire.specs.Buffers.{over}
 use Rattle.wire.specs.Tables.{words, bytes, longs, long_bytes}
@@ -90,10 +90,11 @@ pub record Measured (n : ℕ) (held wanted : List ℕ) (numbers many size : ℕ)
   pub choices-are : choices ≡ choices_for many held wanted
   pub plain : MeasuredPlain n held wanted numbers many size room choices
 
--- Rule 1.3: the same of maps and a room that are lent as bytes.
+-- Rule 1.3: the same of maps and a room that are lent as bytes; the room behind its numbers is as it was.
 pub record MeasuredBytes (n : ℕ) (held wanted room₀ choices₀ : List ℕ) (size : ℕ) (room choices : List ℕ) : Type 0 where
   pub bytes-are : size ≡ length (batch_of (words held) (words wanted))
   pub room-is : longs room ≡ room_for (length (longs room₀)) (words held) (words wanted)
+  pub room-behind : drop (4 * length (longs room₀)) room ≡ drop (4 * length (longs room₀)) room₀
   pub choices-are : choices ≡ choices_for (length choices₀) (words held) (words wanted)
   pub plain : MeasuredBytesPlain n held wanted room₀ choices₀ size room choices
 

@@ -13,4 +13,4 @@ pub measure-requires : goal.measure-requires
 measure-requires c = rw (c.new.ensures.0, c.new.ensures.1) (lent-words c.requires)
 
 pub returns : goal.returns
-returns c = measured-bytes (omega arith) (rw (c.new.ensures.0, c.new.ensures.1) at c.measure.ensures)
+returns c = measured-bytes (omega arith) c.measure.ensures.behind (rw (c.new.ensures.0, c.new.ensures.1) at c.measure.ensures.measured)

@@ -42,7 +42,7 @@ write-requires g c =
     ready args.n held wanted args.choices.now (few-points c.requires.points)
     (map-of (map-long g.T.Element.laws args.n args.maps.now.held.now a.held) args.maps.now.held_small)
     (map-of wide args.maps.now.wanted_small)
-    (c.measure.ensures.choices-are ∙ ap (λ (many : ℕ). choices_for many held wanted) (length-take-le 1984 args.choices.now a.choices)) in
+    (c.measure.ensures.measured.choices-are ∙ ap (λ (many : ℕ). choices_for many held wanted) (length-take-le 1984 args.choices.now a.choices)) in
     (r.can, omega (arith, wide, r.all), g.T.Element.laws.counted args.plan.now 3968 a.plan, a.batch)
 
 pub returns-clause-made : goal.returns-clause-made
@@ -54,9 +54,9 @@ returns-clause-made g c =
     let held : List ℕ = g.T.Element.numbers args.maps.now.held.now in
     let wanted : List ℕ = g.T.Element.numbers args.maps.now.wanted.now in
     record {
-      room-is = room-cut g.R.Room.laws held wanted c.measure.new.room args.room.now c.WIDTH.result c.WIDTH.ensures a.room c.measure.auto.room c.measure.ensures.room-is;
+      room-is = room-cut g.R.Room.laws held wanted c.measure.new.room args.room.now c.WIDTH.result c.WIDTH.ensures a.room c.measure.auto.room c.measure.ensures.measured.room-is;
       choices-is =
           over-part 1984 (choices_of held wanted) args.choices.now (length-firsts 1984 _)
-          (c.measure.ensures.choices-are ∙ ap (λ (many : ℕ). choices_for many held wanted) (length-take-le 1984 args.choices.now a.choices));
+          (c.measure.ensures.measured.choices-are ∙ ap (λ (many : ℕ). choices_for many held wanted) (length-take-le 1984 args.choices.now a.choices));
       written = c.write.ensures;
     }

@@ -1,8 +1,9 @@
--- The loop keeps what it carries, and that room and choices are filled from i on.
+-- The loop keeps what it carries, that room and choices are filled from i on, and what lies behind
+-- the room's numbers.
 use Rattle.std.proofs.Common.{rules, ◌≡◌, ◌∙◌, arith, length, replicate, ℕ, ap}
 use lib.ListN.{length-replicate}
 use Rattle.upload.proofs.Differs.{lent-long}
-use Rattle.upload.proofs.Rooms.{measure-start, measure-small, measure-turn, measure-done}
+use Rattle.upload.proofs.Rooms.{measure-start, measure-small, measure-long, measure-turn, measure-done}
 use Rattle.upload.proofs.Outcome.{measured}
 use Rattle.planning.proofs.measure.Goals as goal
 
@@ -11,12 +12,13 @@ loop-i-init g c =
     let args = c.args in
     let longs = g.R.Room.longs in
     let room : length (longs c.clear.new.room) ≡ length (longs args.room.now) =
-    ap length c.clear.ensures ∙ length-replicate (length (longs args.room.now)) 0 in
+    ap length c.clear.ensures.cleared ∙ length-replicate (length (longs args.room.now)) 0 in
     let choices : length c.fill.new.self ≡ length args.choices.now = omega arith in
     let zeros : c.fill.new.self ≡ replicate {A = ℕ} (length args.choices.now) 0 = search rules in (
       rw (← room, ← choices)
-          (measure-start _ _ (length (longs args.room.now)) (length args.choices.now) (lent-long c.requires) c.at_end-p.ensures c.clear.ensures zeros),
+          (measure-start _ _ (length (longs args.room.now)) (length args.choices.now) (lent-long c.requires) c.at_end-p.ensures c.clear.ensures.cleared zeros),
       choices,
+      c.clear.ensures.behind,
     )
 
 pub choose-p-requires : goal.choose-p-requires
@@ -27,10 +29,14 @@ choose-p-requires g c =
 
 pub loop-i-preserved : goal.loop-i-preserved
 loop-i-preserved g c =
-    (measure-turn _ (omega arith) c.differs_at.ensures c.choose-p.ensures c.keep.ensures c.loop-i.invariant.0, omega arith)
+    let inv = c.loop-i.invariant in (
+      measure-turn _ (omega arith) c.differs_at.ensures c.choose-p.ensures c.keep.ensures.kept inv.0,
+      omega arith,
+      rw (measure-long inv.0) at c.keep.ensures.behind ∙ inv.2,
+    )
 
-pub returns : goal.returns
-returns g c =
+pub returns-clause-measured : goal.returns-clause-measured
+returns-clause-measured g c =
     let args = c.args in
     let maps = args.maps.now in
     let numbers = g.T.Element.numbers in
@@ -40,3 +46,6 @@ returns g c =
     (omega arith)
     (omega arith)
     (measure-done (omega arith) c.loop-i.invariant.0)
+
+pub returns-clause-behind : goal.returns-clause-behind
+returns-clause-behind g c = c.loop-i.invariant.2

@@ -1,6 +1,8 @@
--- The loop keeps what it carries, and that room and choices are filled from i on.
+-- The loop keeps what it carries, that room and choices are filled from i on, and what lies behind
+-- the room's numbers.
+use Prim.Native.Nat.{◌*◌}
 use mathlib.Core.Path.{◌≡◌}
-use lib.ListN.{length}
+use lib.ListN.{length, drop}
 use Rattle.upload.specs.Cost.{differs}
 use Rattle.upload.proofs.Rooms.{Measuring}
 use Rattle.planning.specs.Internal.{cost_in}
@@ -11,3 +13,4 @@ invariant-loop-i g l =
     Measuring (differs (g.T.Element.numbers l.maps.held.now) (g.T.Element.numbers l.maps.wanted.now))
     (length (g.R.Room.longs l.fn.room)) (length l.fn.choices) (cost_in l.p) (g.R.Room.longs l.room) l.choices l.i
     × (length l.choices ≡ length l.fn.choices)
+    × (drop (g.R.Room.WIDTH * length (g.R.Room.longs l.fn.room)) l.room ≡ drop (g.R.Room.WIDTH * length (g.R.Room.longs l.fn.room)) l.fn.room)

@@ -92,8 +92,8 @@ on-bytes =
       compress = λ gains room o q small small' f g. compress-bytes small small' f g;
       split = λ colour start pairs batch o q f g. split-bytes f g;
       plan = plan-determined-bytes;
-      measure = λ n held wanted room₀ choices₀ size room choices size' room' choices' whole small small' f g.
-          let same = measure-determined-bytes n held wanted room₀ choices₀ size room choices size' room' choices' whole small small' f g in
+      measure = λ n held wanted room₀ choices₀ size room choices size' room' choices' small small' f g.
+          let same = measure-determined-bytes n held wanted room₀ choices₀ size room choices size' room' choices' small small' f g in
           (same.sizes, same.rooms, same.choices-lists);
     }
 
