@@ -1,3 +1,4 @@
 pub mod Loops
 pub mod Bytes
 pub mod Parts
+pub mod Behind

@@ -6,20 +6,25 @@ ghost use Rattle.std.specs.Prelude.{◌≡◌, ◌+◌, ◌*◌, ◌≤◌, ◌<
 ghost use Rattle.std.proofs.lemmas.List.Edits.{sets};
 ghost use Rattle.gain_words.specs.Pairs.{expand, sum_runs};
 ghost use Rattle.wire.specs.Tables.{words, bytes};
+ghost use Rattle.tables.specs.Behind.{SameBehind};
 
 use wire::Element;
 
-// What is written in a table, and out of it: numbers one by one, bytes as they lie.
+// What is written in a table, and out of it: numbers one by one, bytes as they lie. What stands
+// behind the numbers stays, so of bytes both clauses say each one (`each-byte` of proofs/Behind).
 pub trait Table: Element {
     // Number i is v.
     fn put(table: &mut [Self], i: usize, v: u16)
         requires { i < length (Self.numbers table.old) }
-        ensures { Self.numbers table.new ≡ set (Self.numbers table.old) i v };
+        ensures numbers { Self.numbers table.new ≡ set (Self.numbers table.old) i v }
+        ensures behind { SameBehind Self.WIDTH Self.numbers table.new table.old };
 
     // The numbers in src, low byte first, from a place on.
     fn words_in(table: &mut [Self], at: usize, src: &[u8])
         requires { at + length (words src.now) ≤ length (Self.numbers table.old) }
-        ensures { Self.numbers table.new ≡ sets (Self.numbers table.old) at (words src.now) };
+        ensures numbers { Self.numbers table.new
+            ≡ sets (Self.numbers table.old) at (words src.now) }
+        ensures behind { SameBehind Self.WIDTH Self.numbers table.new table.old };
 
     // The bytes of a part's numbers, into dst from a place on.
     fn words_out(dst: &mut [u8], at: usize, part: &[Self])
@@ -62,7 +67,8 @@ impl Table for u8 {
 // n numbers from a place on are v.
 pub fn fill<T: Table>(table: &mut [T], at: usize, n: usize, v: u16)
     requires { at + n ≤ length (T.numbers table.old) }
-    ensures { T.numbers table.new ≡ sets (T.numbers table.old) at (replicate n v) }
+    ensures numbers { T.numbers table.new ≡ sets (T.numbers table.old) at (replicate n v) }
+    ensures behind { SameBehind T.WIDTH T.numbers table.new table.old }
 {
     for i in 0..n {
         T::put(table, at + i, v);
@@ -72,7 +78,8 @@ pub fn fill<T: Table>(table: &mut [T], at: usize, n: usize, v: u16)
 // What pairs of a run and a gain in src stand for, from a place on.
 pub fn runs_in<T: Table>(table: &mut [T], at: usize, src: &[u8])
     requires { at + sum_runs (words src.now) ≤ length (T.numbers table.old) }
-    ensures { T.numbers table.new ≡ sets (T.numbers table.old) at (expand (words src.now)) }
+    ensures numbers { T.numbers table.new ≡ sets (T.numbers table.old) at (expand (words src.now)) }
+    ensures behind { SameBehind T.WIDTH T.numbers table.new table.old }
 {
     let mut place = at;
     for k in 0..u8::count(src) / 2 {

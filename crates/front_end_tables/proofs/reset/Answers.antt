@@ -35,9 +35,9 @@ returns g c =
         refl,
         rw (
           c.reset_block.ensures.0,
-          c.fill.ensures ∙ filled (numbers args.staged.now) map_size 0 many.staged,
-          c.fill-2.ensures ∙ filled (numbers args.live.now) map_size 0 many.live,
-          c.fill-3.ensures ∙ filled (numbers args.gains.now) gains_size 4096 many.gains,
+          c.fill.ensures.numbers ∙ filled (numbers args.staged.now) map_size 0 many.staged,
+          c.fill-2.ensures.numbers ∙ filled (numbers args.live.now) map_size 0 many.live,
+          c.fill-3.ensures.numbers ∙ filled (numbers args.gains.now) gains_size 4096 many.gains,
         ) refl,
       );
     }

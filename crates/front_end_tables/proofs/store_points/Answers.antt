@@ -12,4 +12,4 @@ returns-then-opcode-eq52 g c = let named = c.points_named-named.ensures in
     let staged = g.T.Element.numbers c.args.staged.now in
     let points = points_of c.args.«data».now in
     rw (c.if-opcode-eq52.true, ← named.start)
-    (rw c.behind.ensures at c.words_in.ensures ∙ sets-paste staged (2 * c.points_named-named.result.start) points (omega (arith, named.start, c.requires.0 c.if-opcode-eq52.true)))
+    (rw c.behind.ensures at c.words_in.ensures.numbers ∙ sets-paste staged (2 * c.points_named-named.result.start) points (omega (arith, named.start, c.requires.0 c.if-opcode-eq52.true)))

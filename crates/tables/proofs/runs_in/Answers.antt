@@ -20,11 +20,12 @@ loop-k-preserved g c = let numbers = g.T.Element.numbers in
     let left = runs-left ws (2 * k) (omega arith) c.number-run.ensures in
     let aim = runs-turn ws (numbers c.loop-k.table) (2 * k) c.loop-k.place (omega arith) c.number-run.ensures c.number.ensures in
     rw (next-pair k) (
-      rw c.fill.ensures (aim ∙ c.loop-k.invariant.0),
+      rw c.fill.ensures.numbers (aim ∙ c.loop-k.invariant.0),
       omega (arith, left, c.loop-k.invariant.1),
-      rw c.fill.ensures (rw length-sets c.loop-k.invariant.2),
+      rw c.fill.ensures.numbers (rw length-sets c.loop-k.invariant.2),
+      c.fill.ensures.behind ∙ c.loop-k.invariant.3,
     )
 
-pub returns : goal.returns
-returns g c = let ws = words c.args.src.now in
+pub returns-clause-numbers : goal.returns-clause-numbers
+returns-clause-numbers g c = let ws = words c.args.src.now in
     rw (runs_done ws (2 * c.loop-k.k) (omega arith)) at c.loop-k.invariant.0

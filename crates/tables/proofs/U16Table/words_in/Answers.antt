@@ -10,5 +10,5 @@ loop-i-init c = start c.args.table.now c.args.at (words c.args.src.now) (length 
 pub loop-i-preserved : goal.loop-i-preserved
 loop-i-preserved c = turn c.requires (omega arith) (omega arith) c.number.ensures c.loop-i.invariant
 
-pub returns : goal.returns
-returns c = done (omega arith) c.loop-i.invariant ∙ sym (sets-paste c.args.table.now c.args.at (words c.args.src.now) c.requires)
+pub returns-clause-numbers : goal.returns-clause-numbers
+returns-clause-numbers c = done (omega arith) c.loop-i.invariant ∙ sym (sets-paste c.args.table.now c.args.at (words c.args.src.now) c.requires)

@@ -1,0 +1,2 @@
+-- What is written in a table, and what stays.
+pub mod Behind
