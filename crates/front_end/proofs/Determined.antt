@@ -11,6 +11,8 @@ use native.Mathlib.Decide.{ℕ_discrete}
 use borrow.Author.Tests.{eq-eqb, ne_eqb}
 use lib.ListN.{length, take, drop, get_or, length-take, length-drop, length-replicate}
 use lib.Seq.{paste, length-paste, ext_get_or, get_or-take, get_or-drop}
+use Rattle.std.specs.Prelude.{Result}
+use Rattle.wire.specs.declared.refusal.Refusal.{Refusal}
 use Rattle.wire.specs.Numbers.{byte_at}
 use Rattle.wire.specs.Plain.{Bytes}
 use Rattle.wire.specs.Tables.{long_bytes}
@@ -25,13 +27,14 @@ use Rattle.row_mark.specs.Right.{Moved}
 use Rattle.row_mark.proofs.Bits.{length-bits}
 use Rattle.row_mark.proofs.Rows.{length-refreshed, length-each}
 use Rattle.row_mark.proofs.Plain.{same_bits, of-bits-small}
+use Rattle.front_end.specs.declared.mark.RowCount.{RowCount}
 use Rattle.front_end.specs.State.{State, state, lengths_right, ResetOut, reset, reset_state}
 use Rattle.front_end.specs.Commands.{written}
 use Rattle.front_end.specs.Step.{answers, Out, step}
 use Rattle.front_end.specs.Mark.{mark_after, marks, with_mark, marked_block}
 use Rattle.settings.specs.Layout.{mark_place, mark_size}
 use Rattle.front_end.specs.Effects.{block_with}
-use Rattle.front_end.specs.Rows.{mark_of, MarkBytes, columns_of, rows_of, RowRight, TouchedBy, RowsPlain}
+use Rattle.front_end.specs.Rows.{mark_of, MarkBytes, columns_of, rows_of, RowRight, TouchedBy, RowsPlain, RowsAnswerPlain}
 use Rattle.front_end.specs.Plain.{StateLent, Asks, ReplyData, ReplyWritten, StepPlain, ResetPlain, Pinned}
 use Rattle.front_end.proofs.Effects.{leaves, returns}
 use Rattle.front_end.proofs.Demands.{state-lent, resets}
@@ -379,6 +382,17 @@ rows-determined block f g =
           let x = f.wrong-length e in
           let y = g.wrong-length e in
           (x.0 ∙ sym y.0, x.1 ∙ sym y.1, x.2 ∙ sym y.2)
+    ]
+
+pub rows-answer-determined : (block : List ℕ) {r r' : Result RowCount Refusal} → RowsAnswerPlain block r → RowsAnswerPlain block r' → r ≡ r'
+rows-answer-determined block f g =
+    elim (ℕ_discrete (length block) 1024) [
+      | yes e ↦
+          elim (ℕ_discrete (mark_of block) 0) [
+            | yes z ↦ f.none-marked e z ∙ sym (g.none-marked e z)
+            | no some ↦ f.some-marked e some ∙ sym (g.some-marked e some)
+          ]
+      | no e ↦ f.wrong-length e ∙ sym (g.wrong-length e)
     ]
 
 -- ---- What names mean.

@@ -10,14 +10,16 @@ use borrow.Author.Tests.{ne_eqb, lt-ltb, le-ltb, ltb-false}
 use lib.ListN.{length, get_or}
 use lib.Seq.{paste}
 use lib.Dec.{eqb}
-use Rattle.std.specs.Prelude.{Some, None}
+use Rattle.std.specs.Prelude.{Option, Some, None, Result, Ok, Err}
 use Rattle.std.specs.Bool.{then_some}
 use Rattle.std.specs.Int.{to_le_bytes, w32}
+use Rattle.wire.specs.declared.refusal.Refusal.{Refusal}
+use Rattle.wire.specs.declared.refusal.Refusal.TheVariants.{LentWrong}
 use Rattle.wire.specs.Numbers.{byte_at, long_at}
 use Rattle.wire.specs.Tables.{long_bytes}
-use Rattle.row_mark.specs.Bits.{bits_of, of_bits, count_true, first_true}
+use Rattle.row_mark.specs.Bits.{bits_of, of_bits, count_true, first_true, first_set}
 use Rattle.row_mark.specs.Rows.{row_differs, row_moved, right_mark, refreshed}
-use Rattle.row_mark.proofs.Bits.{length-bits, bit-at, number-back, count_ones, first-set, count-few, first-few}
+use Rattle.row_mark.proofs.Bits.{length-bits, bit-at, number-back, count_ones, first-set, first-inside, count-few, first-few}
 use Rattle.row_mark.proofs.Rows.{length-refreshed, refreshed-in, refreshed-behind, refreshed-same, each_right}
 use Rattle.row_mark.proofs.Right.{rows-counted}
 use Rattle.settings.specs.Layout.{block_size, staged_shape, columns_at, rows_at, mark_place, mark_size}
@@ -26,7 +28,9 @@ use Rattle.opcode.specs.Options.{is_read}
 use Rattle.opcode.specs.Allowed.{WriteData}
 use Rattle.packet.specs.Points.{start_of, count_of}
 use Rattle.front_end.specs.declared.mark.Fresh.{Fresh}
+use Rattle.front_end.specs.declared.mark.RowCount.{RowCount}
 use Rattle.front_end.specs.Mark.{mark_at, mark_bits, first_touched, last_touched, mark_after, marked_block, RowsOut, rows_out, rows_told}
+use Rattle.front_end.specs.Rows.{row_count, RowsAnswerPlain}
 use Rattle.front_end.specs.Demands.{RowsPromised}
 use Rattle.front_end.specs.Internal.{Granted, MarkGranted, RowsNamed, fresh_of, rows_worked_out, RowsFresh}
 use Rattle.front_end.specs.Commands.{block_after, runs_past}
@@ -190,6 +194,37 @@ rows-promised block small status count lowest same = go (ℕ_discrete (length bl
               };
           moved = λ z. absurd (omega arith);
         }
+
+-- The same of the code's answer.
+no-bits : {n : ℕ} → n ≡ 0 → (count_true (bits_of 32 n) ≡ 0) × (first_set (bits_of 32 n) ≡ None)
+unfolding bits_of count_true first_true
+no-bits e = rw e (refl, refl)
+
+pub rows-refused : (block : List ℕ) → (length block ≡ block_size → ⊥) → RowsAnswerPlain block (Err LentWrong)
+rows-refused block e =
+    record {
+      wrong-length = λ wrong. refl;
+      none-marked = λ long. absurd (e long);
+      some-marked = λ long. absurd (e long);
+    }
+
+pub rows-answered : (block : List ℕ) → long_at block mark_place < 2 ^ 32 → length block ≡ block_size → {count : ℕ} {lowest : Option ℕ}
+    → count ≡ count_true (mark_bits block) → lowest ≡ first_set (mark_bits block) → RowsAnswerPlain block (Ok (row_count count lowest))
+rows-answered block small e many low =
+    let mark = mark_at block in
+    record {
+      wrong-length = λ wrong. absurd (wrong e);
+      none-marked = λ long none.
+          let bits = no-bits none in
+          joined (many ∙ bits.0) (low ∙ bits.1);
+      some-marked = λ long some.
+          let inside = first-inside 32 mark small (omega (arith, some)) in
+          joined (many ∙ sym (count_ones 32 mark small))
+          (low ∙ rw (first-set 32 mark, length-bits 32 mark, lt-ltb (first_true (bits_of 32 mark)) 32 inside) refl);
+    }
+  where
+    joined : {n n' : ℕ} {l l' : Option ℕ} → n ≡ n' → l ≡ l' → ◌≡◌ {A = Result RowCount Refusal} (Ok (row_count n l)) (Ok (row_count n' l'))
+    joined n l = cc
 
 -- Small numbers all of them.
 pub record FewRows (o : RowsOut) : Type 0 where

@@ -18,7 +18,7 @@ use Rattle.row_mark.specs.Right.{RightFor, RowsCounted}
 use Rattle.settings.specs.Allowed.{SettingsAllowed}
 use Rattle.front_end.specs.State.{State, state, ResetOut, reset}
 use Rattle.front_end.specs.Writes.{Writes, Sets36, Applies}
-use Rattle.front_end.specs.Rows.{mark_of, columns_of, rows_of, MarkRight, SameButMark, SameAnswer, RowsPlain}
+use Rattle.front_end.specs.Rows.{mark_of, columns_of, rows_of, MarkRight, SameButMark, SameAnswer, RowsPlain, RowsAnswerPlain}
 use Rattle.front_end.specs.declared.mark.RowCount.{RowCount}
 use Rattle.front_end.specs.Mark.{mark_bits, RowsOut, rows_out, rows_told}
 use Rattle.front_end.specs.Plain.{StateLent, LentRight, staged_points, WithinTable, Asks, StepPlain, ResetPlain}
@@ -122,6 +122,9 @@ abbrev pub counted : Result RowCount Refusal → RowsOut
 counted (Ok rows) = rows_out 0 rows.count (unwrap_or rows.lowest 32)
 counted (Err why) = rows_out (number_of why) 0 0
 
+-- Rule 11.4: what is promised of the code's answer.
 pub record RowsTold (block : List ℕ) (r : Result RowCount Refusal) : Type 0 where
   pub promised : RowsPromised block (counted r).status (counted r).count (counted r).lowest
+  -- This alone determines the answer.
+  pub plain : RowsAnswerPlain block r
   pub lowest : IfOk r (λ (rows : RowCount). rows.lowest ≡ first_set (mark_bits block))

@@ -1,13 +1,16 @@
 -- What is promised of the row mark, section 11, with every place as a number: when it is right,
 -- what each packet does to it, and what it means that nothing else depends on it. Said apart from
 -- the pass by which the front end goes (Mark).
-use Rattle.std.specs.Prelude.{ℕ, ◌+◌, ◌-◌, ◌*◌, ◌/◌, ◌<◌, ◌≡◌, ◌↔◌, List, length, take, drop, get_or}
+use Rattle.std.specs.Prelude.{ℕ, ◌+◌, ◌-◌, ◌*◌, ◌/◌, ◌<◌, ◌≡◌, ◌↔◌, List, length, take, drop, get_or, Option, Some, None, Result, Ok, Err}
 use Rattle.std.specs.Int.Count.{ones, count_trailing_zeros}
+use Rattle.wire.specs.declared.refusal.Refusal.{Refusal}
+use Rattle.wire.specs.declared.refusal.Refusal.TheVariants.{LentWrong}
 use Rattle.wire.specs.Numbers.{word_at}
 use Rattle.opcode.specs.Allowed.{two}
 use Rattle.packet.specs.Frame.{data_of}
 use Rattle.row_mark.specs.Bits.{bit_at}
 use Rattle.row_mark.specs.Right.{Moved, RightFor, Touches}
+use Rattle.front_end.specs.declared.mark.RowCount.{RowCount}
 use Rattle.front_end.specs.State.{State}
 use Rattle.front_end.specs.Step.{Out}
 use Rattle.front_end.specs.Writes.{Writes, Applies}
@@ -90,3 +93,14 @@ pub record RowsPlain (block : List ℕ) (status count lowest : ℕ) : Type 0 whe
   -- The set bits of the number, and the zeros below the lowest of them.
   pub marked : length block ≡ 1024 → count ≡ ones (mark_of block)
   pub lowest-marked : length block ≡ 1024 → lowest ≡ count_trailing_zeros 32 (mark_of block)
+
+-- Rule 11.4: how many rows are marked, and the lowest of them if there is one.
+abbrev pub row_count : ℕ → Option ℕ → RowCount
+row_count count lowest = record { count = count; lowest = lowest }
+
+-- Rule 11.4: the code's answer, whole. By `RowsPlain` no lowest row is 32; here it is none.
+pub record RowsAnswerPlain (block : List ℕ) (r : Result RowCount Refusal) : Type 0 where
+  pub wrong-length : (length block ≡ 1024 → ⊥) → r ≡ Err LentWrong
+  pub none-marked : length block ≡ 1024 → mark_of block ≡ 0 → r ≡ Ok (row_count 0 None)
+  pub some-marked : length block ≡ 1024 → (mark_of block ≡ 0 → ⊥)
+      → r ≡ Ok (row_count (ones (mark_of block)) (Some (count_trailing_zeros 32 (mark_of block))))

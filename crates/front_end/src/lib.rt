@@ -10,7 +10,7 @@ ghost use Rattle.std.proofs.Math.Seq.{paste};
 ghost use Rattle.wire.specs.Buffers.{Overwrites};
 ghost use Rattle.wire.specs.First.{first};
 ghost use Rattle.wire.specs.Numbers.{byte_at};
-ghost use Rattle.wire.specs.Refusals.{number_of, place_of, status_if, fault_if};
+ghost use Rattle.wire.specs.Refusals.{status_if, fault_if};
 ghost use Rattle.opcode.specs.Options.{is_read};
 ghost use Rattle.opcode.specs.Judgement.{judgement};
 ghost use Rattle.packet.specs.Reading.{answer};
@@ -164,18 +164,29 @@ fn gains_at(colour: usize, start: usize, count: usize) -> Gains
     }
 }
 
-// Writes the reply that carries a status, and of refusal 10 its place, if the packet asks for one.
+// Writes the reply to a packet that is refused, or whose write is accepted, if it asks for one.
 // Answers its length, 0 for none, as rule 3.4 tells it to the caller.
 pub fn acknowledge(packet: &[u8], refused: Option<Refusal>, reply: &mut [u8]) -> usize
     requires { (fault_if refused < 65536) × (reply_room ≤ length reply.old) }
     ensures { Overwrites result (status_reply (status_if refused) (fault_if refused) packet.now)
         reply.old reply.new }
 {
-    let status = status(refused);
+    match refused {
+        Some(why) => acknowledge_status(packet, why.number(), why.place(), reply),
+        None => acknowledge_status(packet, 0, 0, reply),
+    }
+}
+
+// The same with any status, a refusal's or not, and with 10 its place. By number, since no variant
+// stands for the others.
+pub fn acknowledge_status(packet: &[u8], status: u8, place: usize, reply: &mut [u8]) -> usize
+    requires { (place < 65536) × (reply_room ≤ length reply.old) }
+    ensures { Overwrites result (status_reply status place packet.now) reply.old reply.new }
+{
     if !answers(status, packet) {
         return 0;
     }
-    let n = put_place(&mut reply[3..], refused);
+    let n = put_place(&mut reply[3..], status, place);
     reply::seal(reply, status, n, header_of(packet).has_checksum())
 }
 
@@ -195,32 +206,17 @@ fn header_of(packet: &[u8]) -> Header
     }
 }
 
-// Rule 3.4: the number of a refusal, 0 for none.
-fn status(refused: Option<Refusal>) -> u8
-    ensures { result ≡ status_if refused }
-{
-    match refused {
-        Some(why) => why.number(),
-        None => 0,
-    }
-}
-
-// The data of such a reply, over the start of the buffer: of refusal 10 the place in two bytes,
+// The data of such a reply, over the start of the buffer: with status 10 the place in two bytes,
 // else none. Answers its size.
-fn put_place(out: &mut [u8], refused: Option<Refusal>) -> usize
-    requires { (fault_if refused < 65536) × (data_room ≤ length out.old) }
-    ensures { Overwrites result (place_data (status_if refused) (fault_if refused)) out.old out.new }
+fn put_place(out: &mut [u8], number: u8, place: usize) -> usize
+    requires { (place < 65536) × (data_room ≤ length out.old) }
+    ensures { Overwrites result (place_data number place) out.old out.new }
 {
-    let Some(why) = refused else {
-        return 0;
-    };
-    match why {
-        Refusal::ValueWrong(place) => {
-            wire::put_word(out, 0, place);
-            2
-        }
-        _ => 0,
+    if number == 10 {
+        wire::put_word(out, 0, place);
+        return 2;
     }
+    0
 }
 
 // Rule 3.4: why the packet was refused, if it was, and the length of the reply, 0 where there is
@@ -236,7 +232,10 @@ impl Outcome {
     pub fn status(self) -> u8
         ensures { result ≡ status_if self.refused }
     {
-        status(self.refused)
+        match self.refused {
+            Some(why) => why.number(),
+            None => 0,
+        }
     }
 
     // The place that the refusal names, 0 for none.
@@ -250,14 +249,16 @@ impl Outcome {
     }
 }
 
-// The answer to a packet that a decision refuses.
-pub fn refuse(why: Refusal, packet: &[u8], reply: &mut [u8]) -> Outcome
-    requires { (place_of why < 65536) × (reply_room ≤ length reply.old) }
-    ensures { (status_if result.refused ≡ number_of why) × (fault_if result.refused ≡ place_of why)
-        × Overwrites result.size (status_reply (number_of why) (place_of why) packet.now)
+// The answer to a packet that a decision refuses; of a command, one with status 0.
+pub fn refuse(decision: Result<Command, Refusal>, packet: &[u8], reply: &mut [u8]) -> Outcome
+    requires { ((answer decision).fault-place < 65536) × (reply_room ≤ length reply.old) }
+    ensures { (status_if result.refused ≡ (answer decision).number)
+        × (fault_if result.refused ≡ (answer decision).fault-place)
+        × Overwrites result.size
+        (status_reply (answer decision).number (answer decision).fault-place packet.now)
         reply.old reply.new }
 {
-    let refused = Some(why);
+    let refused = decision.err();
     let size = acknowledge(packet, refused, reply);
     Outcome { refused, size }
 }

@@ -109,9 +109,10 @@ impl<'a, T: Table + Map> State<'a, T> {
                 size: 0,
             };
         }
-        match self.decide(packet) {
+        let decision = self.decide(packet);
+        match decision {
             Ok(command) => self.perform(command, packet, reply),
-            Err(why) => front_end::refuse(why, packet, reply),
+            Err(_) => front_end::refuse(decision, packet, reply),
         }
     }
 

@@ -2,7 +2,8 @@
 -- promise are equal. So who believes the plain promises need not believe the definitions that the
 -- code is proved to equal. Lists that are lent as bytes are bytes (`Bytes`, `AllBytes`, of a block
 -- on numbers the four of the row mark, `MarkBytes`); nothing else is assumed.
-use Rattle.std.specs.Prelude.{ℕ, ◌≡◌, Bool, List}
+use Rattle.std.specs.Prelude.{ℕ, ◌≡◌, Bool, List, Result}
+use Rattle.wire.specs.declared.refusal.Refusal.{Refusal}
 use Rattle.wire.specs.Plain.{Bytes, «Pinned» as BytesNamed}
 use Rattle.gain_words.specs.Plain.{«Pinned» as PairsNamed}
 use Rattle.opcode.specs.Plain.{«Pinned» as BitsNamed}
@@ -15,7 +16,8 @@ use Rattle.row_mark.specs.Plain.{«Pinned» as MarkNamed}
 use Rattle.rising.specs.Plain.{RisingPlain}
 use Rattle.front_end.specs.State.{State, ResetOut}
 use Rattle.front_end.specs.Step.{Out}
-use Rattle.front_end.specs.Rows.{MarkBytes, RowsPlain}
+use Rattle.front_end.specs.declared.mark.RowCount.{RowCount}
+use Rattle.front_end.specs.Rows.{MarkBytes, RowsPlain, RowsAnswerPlain}
 use Rattle.front_end.specs.Plain.{StepPlain, ResetPlain, «Pinned» as StateNamed}
 use Rattle.front_end_bytes.specs.Bytes.{Lent, LentOut, LentReset}
 use Rattle.front_end_bytes.specs.Plain.{AllBytes, StepBytesPlain, ResetBytesPlain, «Pinned» as LentNamed}
@@ -52,6 +54,7 @@ pub record OnNumbers : Type 0 where
   pub reset : (s : State) (o q : ResetOut) → ResetPlain s o → ResetPlain s q → o ≡ q
   pub rows : (block : List ℕ) (status count lowest status' count' lowest' : ℕ) → RowsPlain block status count lowest
       → RowsPlain block status' count' lowest' → (status ≡ status') × (count ≡ count') × (lowest ≡ lowest')
+  pub rows-answer : (block : List ℕ) (r r' : Result RowCount Refusal) → RowsAnswerPlain block r → RowsAnswerPlain block r' → r ≡ r'
   -- Sections 10 and 6.
   pub compress : (gains room : List ℕ) (o q : CompressOut) → CompressPlainNumbers gains room o → CompressPlainNumbers gains room q → o ≡ q
   pub split : (colour start : ℕ) (pairs batch : List ℕ) (o q : SplitOut) → SplitPlainNumbers colour start pairs batch o

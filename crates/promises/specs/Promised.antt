@@ -1,6 +1,7 @@
 -- For each entry: what its contract says, by the record that the contract names, has the plain
 -- promise in it. `tools/entries` holds the contracts to these records.
-use Rattle.std.specs.Prelude.{ℕ, Bool, List}
+use Rattle.std.specs.Prelude.{ℕ, Bool, List, Result}
+use Rattle.wire.specs.declared.refusal.Refusal.{Refusal}
 use Rattle.packet.specs.Reading.{Answer}
 use Rattle.packet.specs.Making.{Made}
 use Rattle.packet.specs.Promises.{PacketRead, PacketMade}
@@ -12,8 +13,9 @@ use Rattle.rising.specs.Alone.{RisingTold}
 use Rattle.rising.specs.Plain.{RisingPlain}
 use Rattle.front_end.specs.State.{State, ResetOut}
 use Rattle.front_end.specs.Step.{Out}
-use Rattle.front_end.specs.Demands.{Handled, Resets, RowsPromised}
-use Rattle.front_end.specs.Rows.{RowsPlain}
+use Rattle.front_end.specs.declared.mark.RowCount.{RowCount}
+use Rattle.front_end.specs.Demands.{Handled, Resets, RowsPromised, RowsTold}
+use Rattle.front_end.specs.Rows.{RowsPlain, RowsAnswerPlain}
 use Rattle.front_end.specs.Plain.{StepPlain, ResetPlain}
 use Rattle.front_end_bytes.specs.Bytes.{Lent, LentOut, LentReset}
 use Rattle.front_end_bytes.specs.Promises.{HandledBytes, ResetsBytes}
@@ -37,6 +39,7 @@ pub record Promised : Type 0 where
   pub packet : (p : List ℕ) (s : State) (reply : List ℕ) (o : Out) → Handled p s reply o → StepPlain p s reply o
   pub reset : (s : State) (o : ResetOut) → Resets s o → ResetPlain s o
   pub rows : (block : List ℕ) (status count lowest : ℕ) → RowsPromised block status count lowest → RowsPlain block status count lowest
+  pub rows-answer : (block : List ℕ) (r : Result RowCount Refusal) → RowsTold block r → RowsAnswerPlain block r
   pub compress : (gains room : List ℕ) (o : CompressOut) → CompressedNumbers gains room o → CompressPlainNumbers gains room o
   pub split : (colour start : ℕ) (pairs batch : List ℕ) (o : SplitOut) → SplitNumbers colour start pairs batch o
       → SplitPlainNumbers colour start pairs batch o

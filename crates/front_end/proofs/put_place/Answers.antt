@@ -1,25 +1,17 @@
--- Refusal 10 stores its place, any other nothing.
+-- Status 10 stores its place, any other nothing.
 use mathlib.Core.Path.{refl, ◌∙◌}
 use native.Mathlib.Omega.{arith}
 use lib.Seq.{sets-eq}
+use borrow.Author.Tests.{eq-eqb, ne_eqb}
 use Rattle.wire.specs.Numbers.{word_bytes}
 use Rattle.wire.specs.Buffers.{over}
-use Rattle.front_end.proofs.Replies.{placeless}
 use Rattle.front_end.proofs.put_place.Goals as goal
 
-pub returns-in-ValueWrong : goal.returns-in-ValueWrong
+pub returns-then-number-eq10 : goal.returns-then-number-eq10
 unfolding over
-returns-in-ValueWrong c =
-    let small = rw (c.in-Some.is, c.in-ValueWrong.is) at c.requires.0 in
-    rw (c.in-Some.is, c.in-ValueWrong.is)
-    (refl, c.put_word.ensures ∙ sets-eq (word_bytes c.in-ValueWrong.place) c.args.out.now 0 (omega arith))
+returns-then-number-eq10 c = let args = c.args in
+    rw (eq-eqb _ _ c.if-number-eq10.true) (refl, c.put_word.ensures ∙ sets-eq (word_bytes args.place) args.out.now 0 (omega arith))
 
-pub returns-in_default : goal.returns-in_default
+pub returns : goal.returns
 unfolding over
-returns-in_default c = rw c.in_default.is (refl, refl)
-
-pub returns-in_default-why : goal.returns-in_default-why
-unfolding over
-returns-in_default-why c =
-    let none = placeless c.in-Some.why c.in_default-why.not-ValueWrong in
-    rw (c.in-Some.is, none) (refl, refl)
+returns c = rw (ne_eqb _ _ c.if-number-eq10.false) (refl, refl)

@@ -7,7 +7,7 @@ use Rattle.reply.proofs.Plain.{«pinned» as replies-named}
 use Rattle.reply.proofs.Determined.{«determined» as reply-determined}
 use Rattle.row_mark.proofs.Plain.{«pinned» as mark-named}
 use Rattle.rising.proofs.Determined.{«determined» as rising-determined}
-use Rattle.front_end.proofs.Determined.{«pinned» as state-named, step-determined, reset-determined, rows-determined}
+use Rattle.front_end.proofs.Determined.{«pinned» as state-named, step-determined, reset-determined, rows-determined, rows-answer-determined}
 use Rattle.front_end_bytes.proofs.Determined.{«pinned» as lent-named, step-determined-bytes, reset-determined-bytes}
 use Rattle.compressor.proofs.Determined.{«determined-numbers» as compress-numbers, «determined-bytes» as compress-bytes}
 use Rattle.upload.proofs.Plain.{«pinned» as plans-named}
@@ -44,6 +44,7 @@ promised =
       packet = λ p s reply o f. f.plain;
       reset = λ s o f. f.plain;
       rows = λ block status count lowest f. f.plain;
+      rows-answer = λ block r f. f.plain;
       compress = λ gains room o f. f.plain;
       split = λ colour start pairs batch o f. f.plain;
       plan = λ n held wanted before o f. f.plain;
@@ -76,6 +77,7 @@ on-numbers =
       packet = step-determined;
       reset = reset-determined;
       rows = λ block status count lowest status' count' lowest' f g. rows-determined block f g;
+      rows-answer = λ block r r' f g. rows-answer-determined block f g;
       compress = λ gains room o q f g. compress-numbers f g;
       split = λ colour start pairs batch o q f g. split-numbers f g;
       plan = plan-determined;

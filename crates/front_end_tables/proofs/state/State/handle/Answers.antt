@@ -13,7 +13,7 @@ pub perform-requires-clause-runs : goal.perform-requires-clause-runs
 perform-requires-clause-runs g c = sym c.stops.ensures ∙ c.if-stops.false
 
 pub refuse-requires : goal.refuse-requires
-refuse-requires g c = (decision-fault _ _ c.in-Err.ensures, (lent _ _ (sym c.stops.ensures ∙ c.if-stops.false)).room)
+refuse-requires g c = (decision-fault _ _ c.decide-decision.ensures, (lent _ _ (sym c.stops.ensures ∙ c.if-stops.false)).room)
 
 pub returns-in-Err-clause-outcome : goal.returns-in-Err-clause-outcome
-returns-in-Err-clause-outcome g c = answers-refusal _ _ _ (sym c.stops.ensures ∙ c.if-stops.false) c.in-Err.ensures c.refuse.ensures
+returns-in-Err-clause-outcome g c = answers-refusal _ _ _ (sym c.stops.ensures ∙ c.if-stops.false) c.in-Err.ensures (rw c.in-Err.is at c.refuse.ensures)
