@@ -1,4 +1,4 @@
-// Text in a lent buffer: each function puts its text at a place and answers where it ends.
+// Text on a page, which is a lent buffer: each method puts its text behind what is there.
 #![tactic(auto)]
 
 ghost use Rattle.std.specs.Prelude.{◌+◌, ◌*◌, ◌/◌, ◌%◌, ◌≤◌, ◌<◌, ◌≡◌, [], ◌∷◌, length, take};
