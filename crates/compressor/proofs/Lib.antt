@@ -3,4 +3,5 @@
 pub mod Fewest
 pub mod Writing
 pub mod Outcome
+pub mod Plain
 pub mod Determined

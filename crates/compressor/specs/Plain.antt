@@ -1,9 +1,13 @@
 -- Rules 10.1 and 10.2 with the numbers themselves: what the compressor answers and the room that
--- it leaves, on 16-bit numbers and on bytes. No other outcome meets this (proofs/Determined).
-use Rattle.std.specs.Prelude.{ℕ, ◌*◌, ◌%◌, ◌≤◌, ◌<◌, ◌≡◌, ◌↔◌, List, length, take, drop, get_or}
+-- it leaves, on 16-bit numbers and on bytes. No other outcome meets this (proofs/Determined). And
+-- what the names of this crate mean that the contracts cite.
+use Rattle.std.specs.Prelude.{ℕ, ◌*◌, ◌%◌, ◌≤◌, ◌<◌, ◌≡◌, ◌↔◌, List, length, take, drop, get_or, Ok, Err}
 use Rattle.wire.specs.Tables.{words}
 use Rattle.gain_words.specs.Pairs.{expand}
 use Rattle.gain_words.specs.Plain.{Pairs}
+use Rattle.compressor.specs.declared.Refusal.{Refusal}
+use Rattle.compressor.specs.declared.Refusal.TheVariants.{GainsWrong, LentWrong}
+use Rattle.compressor.specs.Refusals.{number_of, status_of, pairs_of}
 
 -- A status, how many pairs there are, and the room as it is left.
 pub record CompressOut : Type 0 where
@@ -54,3 +58,10 @@ CompressPlainNumbers gains room o = CompressPlain 2 (λ ws. ws) (Compressible ga
 -- Rules 1.3 and 10.2 on bytes.
 abbrev pub CompressPlainBytes : List ℕ → List ℕ → CompressOut → Type 0
 CompressPlainBytes gains room o = CompressPlain 4 words (GainBytesRight gains) (words gains) room o
+
+-- Rule 10.2: the code's answer: 10 where the gains are not right, 1 where the room is short; a
+-- refusal has its number and no pairs, else there are 0 and the pairs.
+pub record Pinned : Type 0 where
+  pub numbers : (number_of GainsWrong ≡ 10) × (number_of LentWrong ≡ 1)
+  pub taken : (pairs : ℕ) → (status_of (Ok pairs) ≡ 0) × (pairs_of (Ok pairs) ≡ pairs)
+  pub refused : (why : Refusal) → (status_of {A = ℕ} (Err why) ≡ number_of why) × (pairs_of (Err why) ≡ 0)

@@ -14,7 +14,7 @@ use Rattle.opcode.specs.Faults.{FirstFault}
 use Rattle.opcode.specs.Plain.{CommandRefuses}
 use Rattle.packet.specs.Frame.{header_of, opcode_of, options_of, length_place, place, fields, data_of}
 use Rattle.packet.specs.Reading.{Answer, reading, answer}
-use Rattle.packet.specs.Making.{packet_of, Made}
+use Rattle.packet.specs.Making.{packet_of, Made, made_told}
 use Rattle.packet.specs.Points.{accepted_at, map_after}
 
 -- ---- Reading, rule 2.6.
@@ -91,11 +91,15 @@ pub record Pinned : Type 0 where
   pub data-at : (h : ℕ) → place h ≡ 2 + h / 8 % 2 + 2 * (h / 16 % 2)
   pub besides-data : (h : ℕ) → fields h ≡ 2 + h / 8 % 2 + 2 * (h / 16 % 2) + h / 32 % 2
   pub content : (p : List ℕ) → data_of p ≡ take (length p - fields (header_of p)) (drop (place (header_of p)) p)
-  -- Number and values of each case of the code's answer.
+  -- Number and values of each case of the code's answers, of reading and of making.
   pub command-case : (op o at size : ℕ)
       → answer (Ok (record { opcode = op; options = o; at = at; size = size })) ≡ record { number = 0; fault-place = 0; opcode = op; options = o; place = at; size = size }
   pub refused-case : (why : Refusal)
       → answer (Err why) ≡ record { number = number_of why; fault-place = place_of why; opcode = 0; options = 0; place = 0; size = 0 }
+  pub made-case : (size : ℕ) (buffer : List ℕ)
+      → made_told (Ok size) buffer ≡ record { status = 0; fault-place = 0; size = size; buffer = buffer }
+  pub unmade-case : (why : Refusal) (buffer : List ℕ)
+      → made_told (Err why) buffer ≡ record { status = number_of why; fault-place = place_of why; size = 0; buffer = buffer }
   pub read : (p : List ℕ) → Bytes p → ReadPlain p (reading p)
   -- Rules 2.1 and 2.5: behind these the checksum of them all, where there is one.
   pub packet : (op o : ℕ) (d : List ℕ) → packet_of op o d ≡ unsealed op o d ++ take (o / 32 % 2) (checksum (unsealed op o d) ∷ [])

@@ -1,3 +1,4 @@
 pub mod Entries
 pub mod Fit
 pub mod Places
+pub mod Plain

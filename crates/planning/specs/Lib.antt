@@ -4,3 +4,4 @@ pub mod Rooms
 pub mod Refusals
 pub mod Lengths
 pub mod Made
+pub mod Plain

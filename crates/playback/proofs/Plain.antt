@@ -1,4 +1,5 @@
--- Rules 9.2 to 9.4: the text and the end state of a file are what the plain promise says.
+-- Rules 9.2 to 9.4: the text and the end state of a file are what the plain promise says; and what
+-- a name means.
 use Prim.Native.Nat.{ℕ, zero, suc, ◌+◌, ◌<◌}
 use mathlib.Core.Path.{◌≡◌, refl, sym, ap, subst, ◌∙◌}
 use mathlib.Core.Bool.{Bool, true, false, cond}
@@ -18,7 +19,7 @@ use Rattle.session_file.specs.Session.{Run, file_run}
 use Rattle.session_file.specs.Plain.{HasPreamble}
 use Rattle.session_file.proofs.File.{file-read}
 use Rattle.playback.specs.Replay.{reply_buffer, line, lines, state_after_records, cut_word, end_line, closing, replay_text, end_state}
-use Rattle.playback.specs.Plain.{Countable, Fresh, Says, Recounts, Closes, Printed}
+use Rattle.playback.specs.Plain.{Countable, Fresh, Says, Recounts, Closes, Printed, Pinned}
 use Rattle.playback.proofs.Lines.{length-buffer}
 use Rattle.playback.proofs.Turns.{status-small}
 use Rattle.playback.proofs.Files.{text-is, closing-none}
@@ -99,3 +100,6 @@ printed file few =
       | yes five ↦ with-preamble file (read.session.0 five) few
       | no not ↦ without-preamble file (λ e. not (read.session.1 e))
     ]
+
+pub pinned : Pinned
+pinned = record { device = λ d. refl }

@@ -1,10 +1,13 @@
 -- Rules 9.2 to 9.4: the text of a replay and its end state, said with the numbers themselves. What
--- a packet does (`step`) and what reset leaves are the controller's.
+-- a packet does (`step`) and what reset leaves are the controller's. And what the name means that
+-- the contracts cite.
 use Rattle.std.specs.Prelude.{ℕ, ◌+◌, ◌<◌, ◌≡◌, List, [], ◌∷◌, ◌++◌, length, take, drop, get_or}
 use Rattle.text.specs.Plain.{Decimal, InHex}
 use Rattle.session_file.specs.Plain.{HasPreamble, Splits}
-use Rattle.front_end.specs.State.{State, reset_state}
+use Rattle.front_end.specs.State.{State, state, reset_state}
 use Rattle.front_end.specs.Step.{step}
+use Rattle.playback.specs.declared.Device.{Device}
+use Rattle.playback.specs.Device.{state_of}
 
 -- Rule 9.6: so many records can be counted: fewer than 2^64 - 1; and those of a file can.
 abbrev pub Counted : ℕ → Type 0
@@ -51,3 +54,7 @@ pub data Printed (file : List ℕ) : List ℕ → State → Type 0 where
       → Printed file (110 ∷ 111 ∷ 116 ∷ 32 ∷ 97 ∷ 32 ∷ 115 ∷ 101 ∷ 115 ∷ 115 ∷ 105 ∷ 111 ∷ 110 ∷ 10 ∷ []) reset_state
   session : {packets : List (List ℕ)} {rest buffer a b : List ℕ} {s : State} → HasPreamble file → Splits (drop 5 file) packets rest → Fresh buffer
       → Recounts buffer 0 packets reset_state a s → Closes (length packets) (length rest) b → Printed file (a ++ b) s
+
+-- Rule 1.1: the state that a device holds is that of its lists.
+pub record Pinned : Type 0 where
+  pub device : (d : Device) → state_of d ≡ state d.block.now d.staged.now d.live.now d.gains.now

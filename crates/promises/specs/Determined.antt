@@ -21,13 +21,16 @@ use Rattle.front_end.specs.Rows.{MarkBytes, RowsPlain, RowsAnswerPlain}
 use Rattle.front_end.specs.Plain.{StepPlain, ResetPlain, «Pinned» as StateNamed}
 use Rattle.front_end_bytes.specs.Bytes.{Lent, LentOut, LentReset}
 use Rattle.front_end_bytes.specs.Plain.{AllBytes, StepBytesPlain, ResetBytesPlain, «Pinned» as LentNamed}
-use Rattle.compressor.specs.Plain.{CompressOut, CompressPlainNumbers, CompressPlainBytes}
+use Rattle.compressor.specs.Plain.{CompressOut, CompressPlainNumbers, CompressPlainBytes, «Pinned» as CompressNamed}
 use Rattle.upload.specs.Plain.{PlanLists, PlanOut, PlanPlain, PlanBytesPlain, MeasuredPlain, MeasuredBytesPlain, «Pinned» as PlansNamed}
 use Rattle.batch.specs.Plain.{«Pinned» as GainsNamed}
-use Rattle.splitter.specs.Plain.{SplitOut, SplitPlainNumbers, SplitPlainBytes}
+use Rattle.splitter.specs.Plain.{SplitOut, SplitPlainNumbers, SplitPlainBytes, «Pinned» as SplitNamed}
+use Rattle.planning.specs.Plain.{«Pinned» as PlanNamed}
+use Rattle.playback.specs.Plain.{«Pinned» as DeviceNamed}
 use Rattle.vermolgas.specs.Plain.{ReadC, MakeC, ReplyC, StepC, ResetC, RowsC, CompressC, SplitC, PlanC}
 
--- What the names mean that plain promises cite, clause by clause and with the numbers themselves.
+-- What the names mean that plain promises and contracts cite, clause by clause and with the numbers
+-- themselves.
 pub record Named : Type 0 where
   pub bytes : BytesNamed
   pub bits : BitsNamed
@@ -39,6 +42,10 @@ pub record Named : Type 0 where
   pub lent : LentNamed
   pub plans : PlansNamed
   pub gains : GainsNamed
+  pub compressing : CompressNamed
+  pub splitting : SplitNamed
+  pub planning : PlanNamed
+  pub device : DeviceNamed
 
 -- The entries on numbers, and those that are lent no table.
 pub record OnNumbers : Type 0 where

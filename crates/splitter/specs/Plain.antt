@@ -1,12 +1,17 @@
 -- Rules 10.3 and 10.4 with the numbers themselves: what the splitter answers and the batch that
 -- it leaves; from pairs as 16-bit numbers, and as bytes. No other outcome meets this
--- (proofs/Determined).
-use Rattle.std.specs.Prelude.{ℕ, ◌+◌, ◌%◌, ◌≤◌, ◌<◌, ◌≡◌, ◌↔◌, List, [], ◌∷◌, ◌++◌, length, take, drop}
+-- (proofs/Determined). And what the names mean that the contracts cite.
+use Rattle.std.specs.Prelude.{ℕ, ◌+◌, ◌%◌, ◌≤◌, ◌<◌, ◌≡◌, ◌↔◌, List, [], ◌∷◌, ◌++◌, length, take, drop, Ok, Err}
 use Rattle.wire.specs.Tables.{words}
 use Rattle.gain_words.specs.Pairs.{sum_runs}
 use Rattle.gain_words.specs.Plain.{Pairs}
 use Rattle.upload.specs.Plan.{joined}
+use Rattle.batch.specs.declared.Sent.{Sent}
 use Rattle.batch.specs.Pairs.{pairs_packet}
+use Rattle.batch.specs.Sending.{packets_of, bytes_of}
+use Rattle.splitter.specs.declared.Refusal.{Refusal}
+use Rattle.splitter.specs.declared.Refusal.TheVariants.{WordOver, ValueWrong, RunsPast, LentWrong}
+use Rattle.splitter.specs.Refusals.{number_of, status_of}
 
 -- A status, how many packets there are and how many bytes they have, and the batch as it is left.
 pub record SplitOut : Type 0 where
@@ -65,3 +70,12 @@ SplitPlainNumbers colour start pairs batch o = SplitPlain 2 colour start pairs p
 -- Rules 1.3 and 10.4 on bytes.
 abbrev pub SplitPlainBytes : ℕ → ℕ → List ℕ → List ℕ → SplitOut → Type 0
 SplitPlainBytes colour start pairs batch o = SplitPlain 4 colour start pairs (words pairs) batch o
+
+-- Rule 10.4: the code's answer: 9 for words that are no pairs, 10, 12 for runs past the colour, 1
+-- for a short batch; a refusal has its number alone, else there are 0, the packets and the bytes.
+pub record Pinned : Type 0 where
+  pub numbers : (number_of WordOver ≡ 9) × (number_of ValueWrong ≡ 10) × (number_of RunsPast ≡ 12) × (number_of LentWrong ≡ 1)
+  pub taken : (sent : Sent)
+      → (status_of (Ok sent) ≡ 0) × (packets_of {E = Refusal} (Ok sent) ≡ sent.packets) × (bytes_of {E = Refusal} (Ok sent) ≡ sent.bytes)
+  pub refused : (why : Refusal)
+      → (status_of {A = Sent} (Err why) ≡ number_of why) × (packets_of (Err why) ≡ 0) × (bytes_of (Err why) ≡ 0)

@@ -60,6 +60,10 @@ pinned =
       numbers-10 = λ at. (refl, refl, refl);
       named-place = λ at. refl;
       no-place = placeless;
+      told-taken = (refl, refl);
+      told-refused = λ why. (refl, refl);
+      told-none = (refl, refl);
+      told-some = λ why. (refl, refl);
     }
 
 -- Two numbers, each the least that applies, are equal: the lesser would have been passed by the

@@ -1,12 +1,12 @@
 -- What the names of this crate mean that plain promises cite, clause by clause and with the numbers
 -- themselves; and what it is to give the first refusal that applies. A reader who believes this
 -- file need not believe the definitions that it speaks of.
-use Rattle.std.specs.Prelude.{ℕ, ◌+◌, ◌*◌, ◌/◌, ◌%◌, ◌<◌, ◌≡◌, ◌⊎◌, List, [], ◌∷◌, ◌++◌, length, drop, get_or}
+use Rattle.std.specs.Prelude.{ℕ, ◌+◌, ◌*◌, ◌/◌, ◌%◌, ◌<◌, ◌≡◌, ◌⊎◌, List, [], ◌∷◌, ◌++◌, length, drop, get_or, Some, None, Ok, Err}
 use Rattle.wire.specs.Numbers.{byte_at, word_at, long_at, word_bytes}
 use Rattle.wire.specs.Tables.{words, bytes, longs, long_bytes}
 use Rattle.wire.specs.Checksum.{weighted, checksum}
 use Rattle.wire.specs.Buffers.{over}
-use Rattle.wire.specs.Refusals.{number_of, place_of}
+use Rattle.wire.specs.Refusals.{number_of, place_of, status_of, fault_of, status_if, fault_if}
 use Rattle.wire.specs.declared.refusal.Refusal.{Refusal}
 use Rattle.wire.specs.declared.refusal.Refusal.TheVariants.{LentWrong, TooShort, TooLong, LengthDiffers}
 use Rattle.wire.specs.declared.refusal.Refusal.TheVariants.{ChecksumDiffers, NotForUs, Unknown, LacksLength}
@@ -56,3 +56,9 @@ pub record Pinned : Type 0 where
   pub numbers-10 : (at : ℕ) → (number_of (ValueWrong at) ≡ 10) × (number_of NamedOnly ≡ 11) × (number_of RunsPast ≡ 12)
   pub named-place : (at : ℕ) → place_of (ValueWrong at) ≡ at
   pub no-place : (why : Refusal) → (number_of why ≡ 10 → ⊥) → place_of why ≡ 0
+  -- Rule 3.4: the status and the place that are told of a result that holds nothing, and of a
+  -- refusal that there may be: those of the refusal; of what is taken 0.
+  pub told-taken : (status_of {A = Unit} (Ok tt) ≡ 0) × (fault_of {A = Unit} (Ok tt) ≡ 0)
+  pub told-refused : (why : Refusal) → (status_of {A = Unit} (Err why) ≡ number_of why) × (fault_of {A = Unit} (Err why) ≡ place_of why)
+  pub told-none : (status_if None ≡ 0) × (fault_if None ≡ 0)
+  pub told-some : (why : Refusal) → (status_if (Some why) ≡ number_of why) × (fault_if (Some why) ≡ place_of why)

@@ -9,11 +9,15 @@ use Rattle.row_mark.proofs.Plain.{«pinned» as mark-named}
 use Rattle.rising.proofs.Determined.{«determined» as rising-determined}
 use Rattle.front_end.proofs.Determined.{«pinned» as state-named, step-determined, reset-determined, rows-determined, rows-answer-determined}
 use Rattle.front_end_bytes.proofs.Determined.{«pinned» as lent-named, step-determined-bytes, reset-determined-bytes}
+use Rattle.compressor.proofs.Plain.{«pinned» as compress-named}
 use Rattle.compressor.proofs.Determined.{«determined-numbers» as compress-numbers, «determined-bytes» as compress-bytes}
 use Rattle.upload.proofs.Plain.{«pinned» as plans-named}
 use Rattle.upload.proofs.Determined.{plan-determined, plan-determined-bytes, measure-determined, measure-determined-bytes}
 use Rattle.batch.proofs.Plain.{«pinned» as gains-named}
+use Rattle.splitter.proofs.Plain.{«pinned» as split-named}
 use Rattle.splitter.proofs.Determined.{«determined-numbers» as split-numbers, «determined-bytes» as split-bytes}
+use Rattle.planning.proofs.Plain.{«pinned» as plan-named}
+use Rattle.playback.proofs.Plain.{«pinned» as device-named}
 use Rattle.vermolgas.proofs.Determined.{read-c, make-c, reply-c, step-c, reset-c, rows-c, compress-c, split-c, plan-c}
 use Rattle.promises.specs.Determined.{Named, OnNumbers, OnBytes, ForC}
 use Rattle.promises.specs.Promised.{Promised}
@@ -32,6 +36,10 @@ named =
       lent = lent-named;
       plans = plans-named;
       gains = gains-named;
+      compressing = compress-named;
+      splitting = split-named;
+      planning = plan-named;
+      device = device-named;
     }
 
 promised : Promised
