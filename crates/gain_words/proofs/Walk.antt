@@ -1,6 +1,6 @@
 -- What the loops keep: gains are passed one at a time, pairs two words at a time. ws are all words, i is how many are passed.
 use Prim.Native.Nat.{ℕ, suc, ◌+◌, ◌*◌, ◌≤◌, ◌<◌}
-use mathlib.Core.Path.{◌≡◌, refl}
+use mathlib.Core.Path.{◌≡◌, refl, ◌∙◌}
 use mathlib.Core.Bool.{true, false}
 use mathlib.Core.List.{List, [], ◌∷◌}
 use native.Mathlib.Numerals.{add-one, add-two}
@@ -8,6 +8,9 @@ use native.Mathlib.Omega.{arith}
 use borrow.Author.Tests.{le-leb, lt-leb}
 use lib.ListN.{length, get_or, drop, length-drop, drop_of_length-le}
 use lib.Seq.{drop-cons}
+use Rattle.wire.specs.Numbers.{byte_at, word_at}
+use Rattle.wire.specs.Tables.{words}
+use Rattle.wire.proofs.Tables.{length_pairs, number_at}
 use Rattle.gain_words.specs.Gains.{first_large}
 use Rattle.gain_words.specs.Pairs.{sum_runs, pair_fault, run_wrong}
 
@@ -71,3 +74,35 @@ module _ (ws : List ℕ) (i : ℕ) where
 -- Where the next pair begins.
 pub next-pair : (k : ℕ) → 2 * (k + 1) ≡ 2 * k + 2
 next-pair k = omega arith
+
+-- Words as bytes from a place on: so many of them at least.
+pub words_count : (s : List ℕ) (at n : ℕ) → at + 2 * n ≤ length s → n ≤ length (words (drop at s))
+words_count s at n h = rw (length_pairs, length-drop) (omega arith)
+
+-- And so many at most.
+pub words-few : (s : List ℕ) (at n : ℕ) → length s ≤ at + 2 * n + 1 → length (words (drop at s)) ≤ n
+words-few s at n h = rw (length_pairs, length-drop) (omega arith)
+
+-- A gain among words as bytes from a place on.
+pub word_in : (s : List ℕ) (at i : ℕ) → at + 2 * i + 1 < length s
+    → (i < length (words (drop at s))) × (word_at s (at + 2 * i) ≡ get_or (words (drop at s)) i 0)
+word_in s at i h = (omega (arith, words_count s at (i + 1) (omega arith)), number_at s at i h)
+
+-- A pair there, the i-th word and the next.
+pub record PairAt (s : List ℕ) (at i run gain : ℕ) : Type 0 where
+  pub within : i + 1 < length (words (drop at s))
+  pub run_at : run ≡ get_or (words (drop at s)) i 0
+  pub gain-at : gain ≡ get_or (words (drop at s)) (i + 1) 0
+
+-- It is so of what the four bytes there give.
+pub pair-at : (s : List ℕ) (at i : ℕ) {run gain : ℕ} → at + 2 * i + 3 < length s
+    → run ≡ word_at s (at + 2 * i)
+    → gain ≡ byte_at s (at + 2 * i + 2) + 256 * byte_at s (at + 2 * i + 3) → PairAt s at i run gain
+pair-at s at i h r g =
+    let low : at + 2 * i + 2 ≡ at + 2 * (i + 1) = omega arith in
+    let high : at + 2 * i + 3 ≡ at + 2 * (i + 1) + 1 = omega arith in
+    record {
+      within = omega (arith, words_count s at (i + 2) (omega arith));
+      run_at = r ∙ number_at s at i (omega arith);
+      gain-at = rw (low, high) at g ∙ number_at s at (i + 1) (omega arith);
+    }

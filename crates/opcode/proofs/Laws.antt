@@ -68,6 +68,13 @@ module _ (d : List ℕ) where
 
 -- The same for count numbers that are known to rise up to the i-th: none is left, the next one is not above it or is passed; a stretch of k steps has the fault, or is passed.
 module _ (d : List ℕ) (at count : ℕ) where
+  -- Before the first of them.
+  pub risen-start : RisenTo d at count 0
+  risen-start =
+      let here : at + 2 * 0 ≡ at = omega arith in
+      let all : count - 0 ≡ count = omega arith in
+      (omega arith, rw (here, all) (omega arith))
+
   module _ (i : ℕ) (to : RisenTo d at count i) where
     pub risen-end : count ≤ i + 1 → rise (words_at d at count) ≡ count
     risen-end h = omega (arith, rise-end d (at + 2 * i) (count - i) (omega arith))

@@ -20,11 +20,11 @@ use Rattle.opcode.proofs.Faults.{Located}
 use Rattle.opcode.proofs.Numbers.{CommandNumber}
 use Rattle.opcode.specs.Plain.{CommandRefuses, not_carried, lacks-length, wrong_size, out_of_range, merges}
 use Rattle.opcode.proofs.Plain.{command-passed}
-use Rattle.packet.specs.Frame.{header_of, opcode_of, options_of, data_of, fields}
+use Rattle.packet.specs.Frame.{header_of, opcode_of, options_of, data_of, fields, announced}
 use Rattle.packet.specs.Reading.{Answer, frame_refusals, refusals, answered, reading}
 use Rattle.packet.specs.Making.{Made, packet_of, make_refusals, made_by, made}
 use Rattle.packet.specs.Plain.{Refuses, too_short, too_long, other_length, other-sum, elsewhere, command, ReadPlain}
-use Rattle.packet.specs.Plain.{MakeRefuses, no_room, MakePlain}
+use Rattle.packet.specs.Plain.{MakeRefuses, no_room, MakePlain, AnnouncedPlain}
 use Rattle.packet.proofs.Frames.{reading-number, accepted}
 use Rattle.packet.proofs.Makes.{make_front, made-by}
 use Rattle.packet.proofs.MadeReads.{made-number}
@@ -189,3 +189,14 @@ module _ (op options : ℕ) (d buffer : List ℕ)
           → made op options d buffer
           ≡ record { status = 0; fault-place = 0; size = length (packet_of op (options_in options) d); buffer = over (packet_of op (options_in options) d) buffer }
       whole z = made-by op options d buffer 0 (sym (made-number op options d buffer) ∙ z)
+
+-- ---- What a packet announces: the length field's number, taken once or not at all.
+
+pub announced-plain : (p : List ℕ) (n : ℕ) → n ≡ announced p → 2 ≤ n → n ≤ 65541 → AnnouncedPlain p n
+announced-plain p n e some few =
+    record {
+      with-length = λ h. e ∙ rw h (omega arith);
+      without = λ h. e ∙ rw h (omega arith);
+      some = some;
+      few = few;
+    }

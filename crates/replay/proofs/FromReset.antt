@@ -21,7 +21,7 @@ use Rattle.front_end.proofs.Demands.{state-lent}
 use Rattle.session_file.specs.declared.Preamble.{Preamble}
 use Rattle.session_file.specs.declared.Preamble.TheVariants.{Matched, Spoiled}
 use Rattle.session_file.specs.Windows.{matched_of}
-use Rattle.session_file.specs.Session.{Run, taken, file_run, start}
+use Rattle.session_file.specs.Session.{Run, taken, spoiled, file_run, start}
 use Rattle.session_file.specs.Plain.{HasPreamble}
 use Rattle.session_file.proofs.Runs.{taken-append}
 use Rattle.session_file.proofs.File.{file-read}
@@ -76,10 +76,15 @@ way-onward (Ok (suc k)) room q some fine =
     way-fine false (min (suc k) room) q fine ∙ rw (ne_eqb (min (suc k) room) 0 (λ e. omega arith)) refl
 
 -- A file whose preamble is spoiled is no session.
+not-matched : (bytes : List ℕ) (matched : Preamble) → matched_of matched ≡ (file_run bytes).matched
+    → matched_of matched ≡ spoiled → HasPreamble bytes → ⊥
+not-matched bytes matched e six preamble = omega (arith, e, six, (file-read bytes).session.1 preamble)
+
+-- How it goes on behind some bytes: there may be more, or the file is no session.
 behind-some : (bytes : List ℕ) (matched : Preamble) → matched_of matched ≡ (file_run bytes).matched
     → (behind_some matched ≡ More) ⊎ ((behind_some matched ≡ Ended) × (HasPreamble bytes → ⊥))
 behind-some bytes (Matched n) e = inl refl
-behind-some bytes Spoiled e = inr (refl, λ preamble. omega (arith, e, (file-read bytes).session.1 preamble))
+behind-some bytes Spoiled e = inr (refl, not-matched bytes Spoiled e refl)
 
 goes_on : {got : Result ℕ Error} {bytes : List ℕ} (matched : Preamble) {how : Way} → how ≡ onward got matched
     → matched_of matched ≡ (file_run bytes).matched → GoesOn got bytes how

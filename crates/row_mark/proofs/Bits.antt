@@ -50,6 +50,26 @@ bit-set (suc k) m zero h = rw (or-low m) (bits-pair k (m / 2) 1 (omega arith))
 bit-set (suc k) m (suc r) h =
     rw (or-high m r) (bits-pair k (bit_or (m / 2) (2 ^ r)) (m % 2) (omega arith) ∙ rw (bit-set k (m / 2) r (omega arith)))
 
+-- A number with a bit set is at least that bit.
+pub bit-there : (m r : ℕ) → 2 ^ r ≤ bit_or m (2 ^ r)
+bit-there m zero = rw (or-low m) (omega arith)
+bit-there m (suc r) = rw (or-high m r, pow-suc) (omega (arith, bit-there (m / 2) r))
+
+-- Set, and taken away again: cleared.
+pub bit-clear : (k m r : ℕ) → r < k → bits_of k (bit_or m (2 ^ r) - 2 ^ r) ≡ set (bits_of k m) r false
+unfolding bits_of
+bit-clear zero m r h = absurd (omega arith)
+bit-clear (suc k) m zero h =
+    let e : m / 2 * 2 + 1 - 2 ^ 0 ≡ m / 2 * 2 + 0 = omega arith in
+    rw (or-low m, e) (bits-pair k (m / 2) 0 (omega arith))
+bit-clear (suc k) m (suc r) h =
+    let there = bit-there (m / 2) r in
+    let e : bit_or (m / 2) (2 ^ r) * 2 + m % 2 - 2 ^ r * 2
+    ≡ (bit_or (m / 2) (2 ^ r) - 2 ^ r) * 2 + m % 2 = omega arith in
+    rw (or-high m r, pow-suc, e)
+    (bits-pair k (bit_or (m / 2) (2 ^ r) - 2 ^ r) (m % 2) (omega arith)
+    ∙ rw (bit-clear k (m / 2) r (omega arith)))
+
 -- A number that has all bits but that one.
 all-half : (k : ℕ) → (2 ^ suc k - 1) / 2 ≡ 2 ^ k - 1
 all-half k = rw pow-suc (omega (arith, pow_pos k))
@@ -65,23 +85,23 @@ keeps-all (suc k) m =
     rw (and_step, all-half k, all-odd k, low)
     (bits-pair k (bit_and (m / 2) (2 ^ k - 1)) (m % 2) (omega arith) ∙ rw (keeps-all k (m / 2)))
 
--- And cleared by them.
-pub bit-clear : (k m r : ℕ) → r < k → bits_of k (bit_and m (2 ^ k - 1 - 2 ^ r)) ≡ set (bits_of k m) r false
+-- All bits kept but that one: cleared.
+pub bit-masked : (k m r : ℕ) → r < k → bits_of k (bit_and m (2 ^ k - 1 - 2 ^ r)) ≡ set (bits_of k m) r false
 unfolding bits_of
-bit-clear zero m r h = absurd (omega arith)
-bit-clear (suc k) m zero h =
+bit-masked zero m r h = absurd (omega arith)
+bit-masked (suc k) m zero h =
     let few : (2 ^ suc k - 1 - 2 ^ 0) / 2 ≡ 2 ^ k - 1 = rw pow-suc (omega (arith, pow_pos k)) in
     let odd : (2 ^ suc k - 1 - 2 ^ 0) % 2 ≡ 0 = rw pow-suc (omega (arith, pow_pos k)) in
     let low : min (m % 2) 0 ≡ 0 = omega arith in
     rw (and_step, few, odd, low)
     (bits-pair k (bit_and (m / 2) (2 ^ k - 1)) 0 (omega arith) ∙ rw (keeps-all k (m / 2)))
-bit-clear (suc k) m (suc r) h =
+bit-masked (suc k) m (suc r) h =
     let less : 2 ^ r < 2 ^ k = pow-lt (omega arith) in
     let few : (2 ^ suc k - 1 - 2 ^ suc r) / 2 ≡ 2 ^ k - 1 - 2 ^ r = rw (pow-suc, pow-suc) (omega arith) in
     let odd : (2 ^ suc k - 1 - 2 ^ suc r) % 2 ≡ 1 = rw (pow-suc, pow-suc) (omega arith) in
     let low : min (m % 2) 1 ≡ m % 2 = omega arith in
     rw (and_step, few, odd, low)
-    (bits-pair k (bit_and (m / 2) (2 ^ k - 1 - 2 ^ r)) (m % 2) (omega arith) ∙ rw (bit-clear k (m / 2) r (omega arith)))
+    (bits-pair k (bit_and (m / 2) (2 ^ k - 1 - 2 ^ r)) (m % 2) (omega arith) ∙ rw (bit-masked k (m / 2) r (omega arith)))
 
 -- ---- Truths and bits.
 

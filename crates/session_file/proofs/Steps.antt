@@ -87,7 +87,7 @@ counted-by m b = go (eqb b (get_or preamble m 0))
     go true = refl
     go false = refl
 
-preamble-follows : (window : List ℕ) (n have : ℕ) (kept : List ℕ) → 0 < length window → n < 5
+pub preamble-follows : (window : List ℕ) (n have : ℕ) (kept : List ℕ) → 0 < length window → n < 5
     → Follows window (Matched n) have kept (nothing 1 (preamble_by n (get_or window 0 0)) have) kept
 unfolding taken
 preamble-follows window n have kept inside few =
@@ -194,14 +194,27 @@ step-done {window} {matched} {have} {kept} {after} {after'} {t} {t'} e f within 
 
 -- ---- The steps, way by way.
 
+-- What the code's equation answers at a byte of the preamble.
+pub next-preamble : (window : List ℕ) (matched : Preamble) (have : ℕ) (kept : List ℕ) → matched_of matched < 5
+    → next_taken window matched have kept
+    ≡ nothing 1 (preamble_by (matched_of matched) (get_or window 0 0)) have
+unfolding next_taken
+next-preamble window matched have kept few =
+    rw (ne_eqb (matched_of matched) 5 (λ q. omega arith), lt-ltb (matched_of matched) 5 few)
+
+-- Such a byte leaves the room as it was.
+pub kept-preamble : (window : List ℕ) (matched : Preamble) (have : ℕ) (kept : List ℕ) → matched_of matched < 5
+    → next_kept window matched have kept ≡ kept
+unfolding next_kept
+kept-preamble window matched have kept few = rw (ne_eqb (matched_of matched) 5 (λ q. omega arith))
+
 -- A byte of the preamble.
 pub preamble-step : {window : List ℕ} {n have : ℕ} {kept : List ℕ} {t : Taken} → 0 < length window → n < 5 → have ≤ most_record
     → t ≡ nothing 1 (preamble_by n (get_or window 0 0)) have → ReaderStep window (Matched n) have kept t kept
-unfolding next_taken next_kept
 preamble-step {window} {n} {have} {kept} inside few most e =
     step-done e refl (within_none window 1 (preamble_by n (get_or window 0 0)) have kept (omega arith) (omega arith) most) refl
-    (preamble-follows window n have kept inside few) (rw (ne_eqb n 5 (λ q. omega arith), lt-ltb n 5 few))
-    (rw (ne_eqb n 5 (λ q. omega arith)))
+    (preamble-follows window n have kept inside few) (next-preamble window (Matched n) have kept few)
+    (kept-preamble window (Matched n) have kept few)
 
 -- All of the window, where the preamble is wrong.
 pub spoiled-step : {window : List ℕ} {matched : Preamble} {have : ℕ} {kept : List ℕ} {t : Taken} → 0 < length window → 5 < matched_of matched

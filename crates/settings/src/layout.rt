@@ -99,3 +99,6 @@ pub const UART_PORT_2: usize = UART_PORT_1 + UART_SIZE;
 pub const ROW_MARK: usize = 865;
 
 pub const ROW_MARK_SIZE: usize = 4;
+
+// Its higher two bytes.
+pub const ROW_MARK_HIGH: usize = ROW_MARK + 2;

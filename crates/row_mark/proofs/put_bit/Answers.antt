@@ -3,7 +3,7 @@ use Prim.Native.Nat.{ℕ, ◌*◌, ◌%◌, ◌^◌, ◌<◌}
 use mathlib.Core.Path.{◌≡◌}
 use native.Mathlib.Nat.{mod-eq_of_lt, one-mul}
 use lib.Pow.{pow-lt}
-use Rattle.row_mark.proofs.Bits.{bit-set, bit-clear}
+use Rattle.row_mark.proofs.Bits.{bit-set, bit-masked}
 use Rattle.row_mark.proofs.put_bit.Goals as goal
 
 -- One, shifted.
@@ -14,4 +14,4 @@ pub returns-then-moved : goal.returns-then-moved
 returns-then-moved c = let a = c.args in rw (shifted a.row c.requires, c.if-moved.true) (bit-set 32 a.mark a.row c.requires)
 
 pub returns-else-moved : goal.returns-else-moved
-returns-else-moved c = let a = c.args in rw (shifted a.row c.requires, c.if-moved.false) (bit-clear 32 a.mark a.row c.requires)
+returns-else-moved c = let a = c.args in rw (shifted a.row c.requires, c.if-moved.false) (bit-masked 32 a.mark a.row c.requires)
