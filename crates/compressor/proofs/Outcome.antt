@@ -146,7 +146,7 @@ module _ (gains room : List ℕ) where
   refusal = first (compress_refusals gains (ltb (length room) pairs_room))
 
   -- The code's number is this one: no number is half there.
-  asked : {number : ℕ} → number ≡ first (refusals_of (not (eqb (length gains % 1) 0)) (length gains) (some_large gains) (ltb (length room) pairs_room))
+  pub asked : {number : ℕ} → number ≡ first (refusals_of (not (eqb (length gains % 1) 0)) (length gains) (some_large gains) (ltb (length room) pairs_room))
       → number ≡ refusal
   asked e = let whole : length gains % 1 ≡ 0 = omega arith in rw whole at e
 

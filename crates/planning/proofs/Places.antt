@@ -16,7 +16,7 @@ use Rattle.wire.proofs.Copies.{sets-paste, behind-paste}
 use Rattle.planning.specs.Rooms.{length-longs}
 
 -- Two 16-bit numbers, and a 32-bit one.
-put-words : (s : List ℕ) (p a b : ℕ) {s₁ s₂ : List ℕ} → s₁ ≡ sets s (4 * p) (word_bytes a) → s₂ ≡ sets s₁ (4 * p + 2) (word_bytes b)
+pub put-words : (s : List ℕ) (p a b : ℕ) {s₁ s₂ : List ℕ} → s₁ ≡ sets s (4 * p) (word_bytes a) → s₂ ≡ sets s₁ (4 * p + 2) (word_bytes b)
     → words s₂ ≡ sets (words s) (2 * p) (a ∷ b ∷ [])
 put-words s p a b {s₁} e f =
     let low : 4 * p ≡ 2 * (2 * p) = omega arith in

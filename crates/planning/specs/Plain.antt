@@ -1,5 +1,5 @@
--- Rule 6.4: what the names mean that the planners' contracts cite, case by case and with the numbers
--- themselves; what is planned is said in upload/specs/Plain.
+-- Rule 6.4: what the names mean that the planners' contracts cite, case by case and with the
+-- numbers themselves; what is planned is said in upload/specs/Plain.
 use Rattle.std.specs.Prelude.{◌≡◌, Ok, Err}
 use Rattle.batch.specs.declared.Sent.{Sent}
 use Rattle.batch.specs.Sending.{packets_of, bytes_of}

@@ -122,13 +122,13 @@ abbrev pub read_to : Progress → Taken → Progress
 read_to p t = progress (p.at + t.size) p.size t.matched p.number t.have
 
 -- The bytes that it took.
-part-next : (window : List ℕ) (at n : ℕ) → part window at (at + n) ≡ take n (drop at window)
+pub part-next : (window : List ℕ) (at n : ℕ) → part window at (at + n) ≡ take n (drop at window)
 part-next window at n = let e : at + n - at ≡ n = omega arith in rw e
 
 module _ (window : List ℕ) (p : Progress) (kept : List ℕ) (s : State) (out : List ℕ) (t : Taken) (kept' : List ℕ)
     (follows : Follows (drop p.at window) p.matched p.have kept t kept') where
   -- No record became whole.
-  turn-none : t.found ≡ None → Replayed window p kept s out (read_to p t) kept' s out
+  pub turn-none : t.found ≡ None → Replayed window p kept s out (read_to p t) kept' s out
   turn-none none =
       record {
         text = [];
@@ -157,7 +157,7 @@ module _ (window : List ℕ) (p : Progress) (kept : List ℕ) (s : State) (out :
     abbrev answered : List ℕ
     answered = found f (drop p.at window) kept'
 
-    turn_one : Replayed window p kept s out q kept' s' out'
+    pub turn_one : Replayed window p kept s out q kept' s' out'
     turn_one =
         record {
           text = line_of (p.number + 1) (step answered s reply);

@@ -28,6 +28,13 @@ pub record Alike (a b : List ℕ) (start columns i : ℕ) : Type 0 where
   pub same : differ (take (2 * columns) (drop (2 * start) a)) (take (2 * columns) (drop (2 * start) b))
       ≡ differ (take (2 * (columns - i)) (drop (2 * (start + i)) a)) (take (2 * (columns - i)) (drop (2 * (start + i)) b))
 
+-- Before the first point.
+pub alike-start : (a b : List ℕ) (start columns : ℕ) → Alike a b start columns 0
+alike-start a b start columns =
+    let e : start + 0 ≡ start = omega arith in
+    let f : columns - 0 ≡ columns = omega arith in
+    record { same = rw (e, f) }
+
 -- Where a point's numbers stand.
 abbrev place : ℕ → ℕ → ℕ
 place start i = 2 * (start + i)

@@ -29,7 +29,7 @@ or_none : (a b : Bool) → (a || b) ≡ false → a ≡ false
 or_none false b e = refl
 or_none true b e = e
 
-within_none : (window : List ℕ) (size : ℕ) (matched : Preamble) (have : ℕ) (kept : List ℕ) → 0 < size → size ≤ length window → have ≤ most_record
+pub within_none : (window : List ℕ) (size : ℕ) (matched : Preamble) (have : ℕ) (kept : List ℕ) → 0 < size → size ≤ length window → have ≤ most_record
     → Within window (nothing size matched have) kept
 within_none window size matched have kept some le most =
     record { some = some; inside = le; have-most = most; lies = λ q. absurd cc }
@@ -38,7 +38,7 @@ within_none window size matched have kept some le most =
 lies-as : {f g : Found} (window kept : List ℕ) → Some f ≡ Some g → Lies f window kept → Lies g window kept
 lies-as {f} {g} window kept e l = let same : f ≡ g = cc in subst (λ (h : Found). Lies h window kept) same l
 
-within-whole : (window : List ℕ) (size : ℕ) (kept : List ℕ) → 2 + size ≤ length window → Within window (whole_record size) kept
+pub within-whole : (window : List ℕ) (size : ℕ) (kept : List ℕ) → 2 + size ≤ length window → Within window (whole_record size) kept
 within-whole window size kept le =
     record {
       some = omega arith;
@@ -47,7 +47,7 @@ within-whole window size kept le =
       lies = λ q. lies-as window kept q (omega arith, omega arith);
     }
 
-within_more : (window : List ℕ) (size have : ℕ) (kept : List ℕ) → 0 < size → size ≤ length window → 515 ≤ length kept
+pub within_more : (window : List ℕ) (size have : ℕ) (kept : List ℕ) → 0 < size → size ≤ length window → 515 ≤ length kept
     → (after_taking size have kept).have ≤ most_record → Within window (after_taking size have kept) kept
 unfolding after_taking
 within_more window size have kept some le room most = go (is_cut have kept) refl most
@@ -105,7 +105,7 @@ preamble-follows window n have kept inside few =
       record-cut = st.record-cut;
     })
 
-spoiled-follows : (window : List ℕ) (matched : Preamble) (have : ℕ) (kept : List ℕ) → 5 < matched_of matched
+pub spoiled-follows : (window : List ℕ) (matched : Preamble) (have : ℕ) (kept : List ℕ) → 5 < matched_of matched
     → Follows window matched have kept (nothing (length window) matched have) kept
 spoiled-follows window matched have kept many =
     λ r st.
@@ -159,14 +159,14 @@ empty : (l : List ℕ) → 0 ≡ length l → l ≡ []
 empty [] e = refl
 empty (x ∷ l) e = absurd (omega arith)
 
-whole-follows : (window : List ℕ) (kept : List ℕ) → 2 + word_at window 0 ≤ length window
+pub whole-follows : (window : List ℕ) (kept : List ℕ) → 2 + word_at window 0 ≤ length window
     → Follows window (Matched 5) 0 kept (whole_record (word_at window 0)) kept
 whole-follows window kept lies =
     λ r st.
     let e : r ≡ run 5 r.whole [] = stands-for r (Matched 5) 0 kept st ∙ ap (run 5 r.whole) (empty r.under st.record-bytes) in
     subst (λ (x : Run). Went x window (whole_record (word_at window 0)) kept) (sym e) (whole-went window kept lies r.whole)
 
-more-follows : (window : List ℕ) (have : ℕ) (kept : List ℕ) → 0 < length window → 515 ≤ length kept
+pub more-follows : (window : List ℕ) (have : ℕ) (kept : List ℕ) → 0 < length window → 515 ≤ length kept
     → Follows window (Matched 5) have kept
     (after_taking (taking window have kept) (have + taking window have kept) (kept_after kept have (take (taking window have kept) window)))
     (kept_after kept have (take (taking window have kept) window))
@@ -184,7 +184,7 @@ more-follows window have kept inside room =
     (went-more window r.whole r.under kept inside room front st.record-cut))
 
 -- What a step promises, of its answer and the room as they are known.
-step-done : {window : List ℕ} {matched : Preamble} {have : ℕ} {kept after after' : List ℕ} {t t' : Taken} → t ≡ t' → after ≡ after'
+pub step-done : {window : List ℕ} {matched : Preamble} {have : ℕ} {kept after after' : List ℕ} {t t' : Taken} → t ≡ t' → after ≡ after'
     → Within window t' after' → length after' ≡ length kept → Follows window matched have kept t' after'
     → next_taken window matched have kept ≡ t' → next_kept window matched have kept ≡ after' → ReaderStep window matched have kept t after
 step-done {window} {matched} {have} {kept} {after} {after'} {t} {t'} e f within long follows answer room =
@@ -216,35 +216,76 @@ preamble-step {window} {n} {have} {kept} inside few most e =
     (preamble-follows window n have kept inside few) (next-preamble window (Matched n) have kept few)
     (kept-preamble window (Matched n) have kept few)
 
+-- What the equation answers where the preamble is wrong, and what becomes of the room.
+pub next-spoiled : (window : List ℕ) (matched : Preamble) (have : ℕ) (kept : List ℕ) → 5 < matched_of matched
+    → next_taken window matched have kept ≡ nothing (length window) matched have
+unfolding next_taken
+next-spoiled window matched have kept many =
+    rw (ne_eqb (matched_of matched) 5 (λ q. omega arith), le-ltb (matched_of matched) 5 (omega arith))
+
+pub kept-spoiled : (window : List ℕ) (matched : Preamble) (have : ℕ) (kept : List ℕ) → 5 < matched_of matched
+    → next_kept window matched have kept ≡ kept
+unfolding next_kept
+kept-spoiled window matched have kept many = rw (ne_eqb (matched_of matched) 5 (λ q. omega arith))
+
 -- All of the window, where the preamble is wrong.
 pub spoiled-step : {window : List ℕ} {matched : Preamble} {have : ℕ} {kept : List ℕ} {t : Taken} → 0 < length window → 5 < matched_of matched
     → have ≤ most_record → t ≡ nothing (length window) matched have → ReaderStep window matched have kept t kept
-unfolding next_taken next_kept
 spoiled-step {window} {matched} {have} {kept} inside many most e =
     step-done e refl (within_none window (length window) matched have kept inside (omega arith) most) refl
-    (spoiled-follows window matched have kept many)
-    (rw (ne_eqb (matched_of matched) 5 (λ q. omega arith), le-ltb (matched_of matched) 5 (omega arith)))
-    (rw (ne_eqb (matched_of matched) 5 (λ q. omega arith)))
+    (spoiled-follows window matched have kept many) (next-spoiled window matched have kept many)
+    (kept-spoiled window matched have kept many)
+
+-- Where a record begins and ends in the window: no byte of it was kept, and it has its place there.
+pub whole-first : (window : List ℕ) (have : ℕ) → lies_whole window have ≡ true → have ≡ 0
+whole-first window have whole = eqb-true have 0 (and_left (eqb have 0) _ whole)
+
+pub whole-lies : (window : List ℕ) (have : ℕ) → lies_whole window have ≡ true → 2 + word_at window 0 ≤ length window
+whole-lies window have whole =
+    leb-true (2 + word_at window 0) (length window) (and_right (eqb have 0) _ whole)
+
+-- What the equation answers then, and what becomes of the room.
+pub next-whole : (window : List ℕ) (have : ℕ) (kept : List ℕ) → lies_whole window have ≡ true
+    → next_taken window (Matched 5) have kept ≡ whole_record (word_at window 0)
+unfolding next_taken record_taken
+next-whole window have kept whole = rw whole
+
+pub kept_whole : (window : List ℕ) (have : ℕ) (kept : List ℕ) → lies_whole window have ≡ true
+    → next_kept window (Matched 5) have kept ≡ kept
+unfolding next_kept record_kept
+kept_whole window have kept whole = rw whole
 
 -- A record that begins and ends in the window.
 pub whole-step : {window : List ℕ} {have : ℕ} {kept : List ℕ} {t : Taken} → lies_whole window have ≡ true
     → t ≡ whole_record (word_at window 0) → ReaderStep window (Matched 5) have kept t kept
-unfolding next_taken next_kept record_taken record_kept
 whole-step {window} {have} {kept} whole e =
-    let none : have ≡ 0 = eqb-true have 0 (and_left (eqb have 0) _ whole) in
-    let lies = leb-true (2 + word_at window 0) (length window) (and_right (eqb have 0) _ whole) in
-    step-done e refl (within-whole window (word_at window 0) kept lies) refl (rw none (whole-follows window kept lies)) (rw whole) (rw whole)
+    let none : have ≡ 0 = whole-first window have whole in
+    let lies = whole-lies window have whole in
+    step-done e refl (within-whole window (word_at window 0) kept lies) refl (rw none (whole-follows window kept lies))
+    (next-whole window have kept whole) (kept_whole window have kept whole)
+
+-- What the equation answers where the window has a part of a record, and what the room keeps.
+pub next_more : (window : List ℕ) (have : ℕ) (kept : List ℕ) → lies_whole window have ≡ false
+    → next_taken window (Matched 5) have kept
+    ≡ after_taking (taking window have kept) (have + taking window have kept)
+    (kept_after kept have (take (taking window have kept) window))
+unfolding next_taken record_taken
+next_more window have kept more = rw more
+
+pub kept_more : (window : List ℕ) (have : ℕ) (kept : List ℕ) → lies_whole window have ≡ false
+    → next_kept window (Matched 5) have kept ≡ kept_after kept have (take (taking window have kept) window)
+unfolding next_kept record_kept
+kept_more window have kept more = rw more
 
 -- One that the window has in part.
 pub more-step : {window : List ℕ} {have : ℕ} {kept after : List ℕ} {t : Taken} → 0 < length window → 515 ≤ length kept
     → after ≡ kept_after kept have (take (taking window have kept) window)
     → t ≡ after_taking (taking window have kept) (have + taking window have kept) after → t.have ≤ most_record
     → 1 ≤ taking window have kept → lies_whole window have ≡ false → ReaderStep window (Matched 5) have kept t after
-unfolding next_taken next_kept record_taken record_kept
 more-step {window} {have} {kept} {after} {t} inside room f e most some lies =
     let n : ℕ = taking window have kept in
     let long : length after ≡ length kept = ap (λ (l : List ℕ). length l) f ∙ length-kept kept have (take n window) room in
     let follows : Follows window (Matched 5) have kept (after_taking n (have + n) after) after =
     subst (λ (l : List ℕ). Follows window (Matched 5) have kept (after_taking n (have + n) l) l) (sym f) (more-follows window have kept inside room) in
     step-done e refl (within_more window n (have + n) after (omega arith) (omega arith) (omega (arith, long)) (rw e at most)) long follows
-    (rw lies (ap (after_taking n (have + n)) (sym f))) (rw lies (sym f))
+    (next_more window have kept lies ∙ ap (after_taking n (have + n)) (sym f)) (kept_more window have kept lies ∙ sym f)

@@ -71,8 +71,9 @@ SplitPlainNumbers colour start pairs batch o = SplitPlain 2 colour start pairs p
 abbrev pub SplitPlainBytes : ℕ → ℕ → List ℕ → List ℕ → SplitOut → Type 0
 SplitPlainBytes colour start pairs batch o = SplitPlain 4 colour start pairs (words pairs) batch o
 
--- Rule 10.4: the code's answer: 9 for words that are no pairs, 10, 12 for runs past the colour, 1
--- for a short batch; a refusal has its number alone, else there are 0, the packets and the bytes.
+-- Rule 10.4: the code's answer: 9 for words that are no pairs, 10 for a value out of its range, 12
+-- for runs past the colour, 1 for a short batch; a refusal has its number alone, else there are 0,
+-- the packets and the bytes.
 pub record Pinned : Type 0 where
   pub numbers : (number_of WordOver ≡ 9) × (number_of ValueWrong ≡ 10) × (number_of RunsPast ≡ 12) × (number_of LentWrong ≡ 1)
   pub taken : (sent : Sent)

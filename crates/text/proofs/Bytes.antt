@@ -7,7 +7,7 @@ use native.Mathlib.Omega.{arith}
 use lib.ListN.{length, take, get_or}
 use borrow.Rule.Slice.PartMut.{put_mid}
 use Rattle.std.proofs.lemmas.Slice.{put_mid-paste}
-use lib.Seq.{sets, sets-eq, length-take-le, take_all, take-suc}
+use lib.Seq.{sets, sets-eq, length-sets, length-take-le, take_all, take-suc}
 use Rattle.wire.proofs.Laws.{sets-append}
 use Rattle.text.specs.Text.{blank, digit, hex}
 
@@ -40,6 +40,10 @@ unfolding hex
 write-start out at bytes = record { within = omega arith; ends = omega arith; written = refl }
 
 module _ {out₀ : List ℕ} {at : ℕ} {bytes : List ℕ} {out : List ℕ} {end i : ℕ} (r : Writing out₀ at bytes out end i) where
+  -- The buffer keeps its length.
+  pub write-long : length out ≡ length out₀
+  write-long = rw r.written (length-sets out₀ at (hex (take i bytes)))
+
   long : length (hex (take i bytes)) ≡ 3 * i
   long = length-hex (take i bytes) ∙ ap (◌*◌ 3) (length-take-le i bytes r.within)
 

@@ -7,7 +7,7 @@ use native.Mathlib.Nat.{pow-succ'}
 use native.Mathlib.Omega.{arith}
 use native.Mathlib.Decide.{dec_lt}
 use borrow.Author.Tests.{lt-ltb, le-ltb}
-use lib.ListN.{length, get_or, get_or-append}
+use lib.ListN.{length, take, get_or, get_or-append}
 use Rattle.text.specs.Text.{digit, digits, decimal, hex}
 use Rattle.text.specs.Plain.{value_of, Digits, last, more, Decimal, HexDigit, InHex, none, byte, Hex}
 use Rattle.text.proofs.Number.{digits-one, digits_more, digits-most, digits-some, few}
@@ -121,3 +121,10 @@ in-hex (b ∷ bs) = byte (hex-digit (b / 16)) (hex-digit (b % 16)) (in-hex bs)
 
 pub hex-right : (bs : List ℕ) → ((k : ℕ) → get_or bs k 0 < 256) → Hex bs (hex bs)
 hex-right bs h = record { all-bytes = h; in-hex = in-hex bs }
+
+-- The first of some bytes are bytes.
+pub bytes_take : (n : ℕ) (bs : List ℕ) → ((k : ℕ) → get_or bs k 0 < 256) → (k : ℕ) → get_or (take n bs) k 0 < 256
+bytes_take zero bs h k = omega arith
+bytes_take (suc n) [] h k = omega arith
+bytes_take (suc n) (b ∷ bs) h zero = h 0
+bytes_take (suc n) (b ∷ bs) h (suc k) = bytes_take n bs (λ i. h (suc i)) k

@@ -90,7 +90,8 @@ pub record Measured (n : ℕ) (held wanted : List ℕ) (numbers many size : ℕ)
   pub choices-are : choices ≡ choices_for many held wanted
   pub plain : MeasuredPlain n held wanted numbers many size room choices
 
--- Rule 1.3: the same of maps and a room that are lent as bytes; the room behind its numbers is as it was.
+-- Rule 1.3: the same of maps and a room that are lent as bytes; the room behind its numbers is as
+-- it was.
 pub record MeasuredBytes (n : ℕ) (held wanted room₀ choices₀ : List ℕ) (size : ℕ) (room choices : List ℕ) : Type 0 where
   pub bytes-are : size ≡ length (batch_of (words held) (words wanted))
   pub room-is : longs room ≡ room_for (length (longs room₀)) (words held) (words wanted)
