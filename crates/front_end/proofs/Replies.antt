@@ -8,6 +8,9 @@ use native.Mathlib.Omega.{arith}
 use borrow.Author.Tests.{lt-ltb}
 use lib.ListN.{length}
 use lib.Dec.{eqb}
+use Rattle.wire.specs.declared.refusal.Refusal.{Refusal}
+use Rattle.wire.specs.declared.refusal.Refusal.TheVariants.{LentWrong, TooShort, TooLong, LengthDiffers, ChecksumDiffers, NotForUs, Unknown, LacksLength, SizeWrong, ValueWrong, NamedOnly, RunsPast}
+use Rattle.wire.specs.Refusals.{number_of, place_of}
 use Rattle.wire.specs.Buffers.{over}
 use Rattle.wire.specs.Numbers.{word_bytes}
 use Rattle.opcode.specs.Options.{has_checksum}
@@ -32,6 +35,21 @@ place-few n f = go (eqb n 10)
     go : (b : Bool) → length (cond b (word_bytes f) []) ≤ 2
     go true = omega arith
     go false = omega arith
+
+-- No refusal but 10 has one.
+pub placeless : (why : Refusal) → ((place : ℕ) → why ≡ ValueWrong place → ⊥) → place_data (number_of why) (place_of why) ≡ []
+placeless LentWrong h = refl
+placeless TooShort h = refl
+placeless TooLong h = refl
+placeless LengthDiffers h = refl
+placeless ChecksumDiffers h = refl
+placeless NotForUs h = refl
+placeless Unknown h = refl
+placeless LacksLength h = refl
+placeless SizeWrong h = refl
+placeless (ValueWrong place) h = absurd (h place refl)
+placeless NamedOnly h = refl
+placeless RunsPast h = refl
 
 -- The reply of an accepted read.
 pub read-reply : (p : List ℕ) (s : State) → 0 < length p → reads p ≡ true
